@@ -50,9 +50,7 @@ pub fn store_slots(image: &mut [u8], slots: &[u16])
 pub fn show_slots(image: &[u8], slots: &[u16], blocks: &mut [u16])
     ensures { blocks.new ≡ set_all blocks.old (slots_got (slot_of image.now) (slots_from slots.now) 42) 65534 }
 {
-    let mut k: usize = 42;
-    while 0 < k {
-        k -= 1;
+    for k in (0..42).rev() {
         let y = entry(slots, k);
         if slot_of(image, k).0 != y {
             set_entry(blocks, y as usize, 65534);

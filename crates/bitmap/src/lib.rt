@@ -20,12 +20,10 @@ fn bits_in(part: &[u16]) -> u32
     ensures { result ≡ bits_from (free_at part.now) 0 32 }
 {
     let mut w: u32 = 0;
-    let mut i = 0;
-    while i < part.len() {
-        if part[i] == 1 {
+    for (i, owner) in part.iter().enumerate() {
+        if *owner == 1 {
             w = set_bit(w, i as u32);
         }
-        i += 1;
     }
     w
 }
@@ -91,11 +89,9 @@ pub fn fill_bitmap(bitmap: &mut [u8], table: &[u16], n: usize, first: usize)
     ensures { bitmap.new ≡ tabulate (bitmap_byte (free_bit table.now n first)) (length bitmap.old) }
 {
     let mut w: u32 = 0;
-    let mut p = 0;
-    while p < bitmap.len() {
+    for (p, byte) in bitmap.iter_mut().enumerate() {
         w = word_at(table, n, first, p, w);
-        bitmap[p] = byte_of(w, p % 4);
-        p += 1;
+        *byte = byte_of(w, p % 4);
     }
 }
 
@@ -105,13 +101,11 @@ pub fn first_differing(bitmap: &[u8], table: &[u16], n: usize, first: usize) -> 
     ensures { result ≡ first_differing (free_bit table.now n first) bitmap.now }
 {
     let mut w: u32 = 0;
-    let mut p = 0;
-    while p < bitmap.len() {
+    for (p, byte) in bitmap.iter().enumerate() {
         w = word_at(table, n, first, p, w);
-        if bitmap[p] != byte_of(w, p % 4) {
+        if *byte != byte_of(w, p % 4) {
             return p;
         }
-        p += 1;
     }
-    p
+    bitmap.len()
 }

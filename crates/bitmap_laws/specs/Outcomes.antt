@@ -1,9 +1,9 @@
 -- The outcome of the two calls, from the check's.
-use Rattle.std.specs.Prelude.{ℕ, zero, suc, ◌≤◌, ◌<◌, ◌≡◌, refl, ◌≢◌, Bool, true, false, not, List, [], ◌∷◌, eqb, length, drop, replicate}
+use Rattle.std.specs.Prelude.{ℕ, zero, suc, ◌≤◌, ◌<◌, ◌≡◌, refl, ◌≢◌, Bool, true, false, not, List, [], ◌∷◌, eqb, length, drop, replicate, Result, Ok, Err}
 use Rattle.std.proofs.Common.{sym, ◌∙◌, arith, eq-eqb, ne_eqb, lt-ltb, le-ltb}
 use Rattle.std.proofs.Math.Path.{ap}
 use Rattle.disk.specs.declared.Refusal.{Refusal}
-use Rattle.disk.specs.Refusals.{number_of}
+use Rattle.disk.specs.Refusals.{number_of, answer_of}
 use Rattle.disk.proofs.Laws.{number_some}
 use Rattle.rules.specs.Counting.{◌if◌else◌}
 use Rattle.rules.specs.Accepted.{disk_size, check_answer}
@@ -11,9 +11,6 @@ use Rattle.rules.specs.Changes.{left}
 use Rattle.rules.specs.Tables.{table_left, blocks_left, anodes_left}
 use Rattle.rules.specs.Calls.{Outcome, outcome_of, settled, check_outcome, done_or, checked_first}
 use Rattle.fsck.specs.declared.Tally.{Tally}
-use Rattle.fsck.specs.declared.Checked.{Checked}
-use Rattle.fsck.specs.declared.Checked.TheVariants.{Accepted, Refused}
-use Rattle.fsck.specs.Answers.{checked_number}
 use Rattle.laws.specs.Tests.{first_of_some, first_of-none}
 use Rattle.bitmap.specs.Bitmap.{block_bit, bitmap_length, bitmap_of, first_differing}
 use Rattle.bitmap.specs.Calls.{bitmap_refusal, bitmap_answer, bitmap_outcome, differs_fields, bitmap_differs_outcome}
@@ -52,8 +49,8 @@ pub fields_none : (place len : ℕ) → len ≤ place → replicate 2 0 ≡ diff
 unfolding differs_fields
 fields_none place len l = rw (le-ltb place len l)
 
-module _ (img b₀ a₀ b a : List ℕ) (x : Checked) (e : outcome_of (checked_number x) img b a [] [] ≡ check_outcome img b₀ a₀) where
-  module _ (k : ℕ) (is_k : checked_number x ≡ k) where
+module _ (img b₀ a₀ b a : List ℕ) (x : Result Tally Refusal) (e : outcome_of (answer_of x) img b a [] [] ≡ check_outcome img b₀ a₀) where
+  module _ (k : ℕ) (is_k : answer_of x ≡ k) where
     answers : check_answer img (length b₀) (length a₀) ≡ k
     unfolding check_outcome settled
     answers = ap (λ (o : Outcome). o.answer) (sym e) ∙ is_k
@@ -68,33 +65,30 @@ module _ (img b₀ a₀ b a : List ℕ) (x : Checked) (e : outcome_of (checked_n
 
   -- ---- refused by the check
 
-  module _ (r : Refusal) (is : x ≡ Refused r) (k : ℕ) (n : k ≡ number_of r) where
-    number_k : checked_number x ≡ k
-    number_k = ap checked_number is ∙ sym n
+  module _ (r : Refusal) (is : x ≡ Err r) where
+    number_is : answer_of x ≡ number_of r
+    number_is = ap (answer_of {X = Tally}) is
 
-    some : 1 ≤ k
-    some = omega (arith, n, number_some r)
+    first_k : (m : ℕ) → checked_first img b₀ a₀ m ≡ number_of r
+    first_k m = first_of_some (check_answer img (length b₀) (length a₀)) m (number_of r) (answers (number_of r) number_is) (number_some r)
 
-    first_k : (m : ℕ) → checked_first img b₀ a₀ m ≡ k
-    first_k m = first_of_some (check_answer img (length b₀) (length a₀)) m k (answers k number_k) some
-
-    settled_k : (output : List ℕ) → outcome_of k img b a output [] ≡ settled (left k img) b₀ a₀ output []
+    settled_k : (output : List ℕ) → outcome_of (number_of r) img b a output [] ≡ settled (left (number_of r) img) b₀ a₀ output []
     unfolding settled
-    settled_k output = rw (← blocks-left k number_k, ← anodes_left_lem k number_k)
+    settled_k output = rw (← blocks-left (number_of r) number_is, ← anodes_left_lem (number_of r) number_is)
 
-    pub bitmap_refused : (out : List ℕ) → outcome_of k img b a out [] ≡ bitmap_outcome img b₀ a₀ out
+    pub bitmap_refused : (out : List ℕ) → outcome_of (number_of r) img b a out [] ≡ bitmap_outcome img b₀ a₀ out
     unfolding bitmap_outcome bitmap_answer
-    bitmap_refused out = rw (first_k (bitmap_refusal img (length out)), not_done k some (bitmap_of img) out) (settled_k out)
+    bitmap_refused out = rw (first_k (bitmap_refusal img (length out)), not_done (number_of r) (number_some r) (bitmap_of img) out) (settled_k out)
 
-    pub differs_refused : (bytes : List ℕ) → outcome_of k img b a (replicate 2 0) [] ≡ bitmap_differs_outcome img b₀ a₀ bytes
+    pub differs_refused : (bytes : List ℕ) → outcome_of (number_of r) img b a (replicate 2 0) [] ≡ bitmap_differs_outcome img b₀ a₀ bytes
     unfolding bitmap_differs_outcome bitmap_answer
-    differs_refused bytes = rw (first_k (bitmap_refusal img (length bytes)), not_done k some _ (replicate 2 0)) (settled_k (replicate 2 0))
+    differs_refused bytes = rw (first_k (bitmap_refusal img (length bytes)), not_done (number_of r) (number_some r) _ (replicate 2 0)) (settled_k (replicate 2 0))
 
   -- ---- accepted
 
-  module _ (t : Tally) (is : x ≡ Accepted t) where
-    number_0 : checked_number x ≡ 0
-    number_0 = ap checked_number is
+  module _ (t : Tally) (is : x ≡ Ok t) where
+    number_0 : answer_of x ≡ 0
+    number_0 = ap (answer_of {X = Tally}) is
 
     first-0 : (m : ℕ) → checked_first img b₀ a₀ m ≡ m
     first-0 m = first_of-none (check_answer img (length b₀) (length a₀)) m (answers 0 number_0)

@@ -1,12 +1,11 @@
 -- 02, No. 11: the theorems about the bitmap.
-use Rattle.std.specs.Prelude.{ℕ, ◌+◌, ◌*◌, ◌-◌, ◌/◌, ◌%◌, ◌<◌, ◌≤◌, ◌≡◌, refl, ◌≢◌, ◌⊎◌, cond, not, List, [], ◌∷◌, T, eqb, length, get_or}
+use Rattle.std.specs.Prelude.{ℕ, ◌+◌, ◌*◌, ◌/◌, ◌%◌, ◌<◌, ◌≤◌, ◌≡◌, refl, ◌≢◌, ◌⊎◌, cond, not, List, [], ◌∷◌, T, eqb, length, get_or}
 use Rattle.std.proofs.Math.Path.{sym}
 use Rattle.std.proofs.Common.{◌∙◌, arith}
 use Rattle.std.proofs.Math.Logic.{inl, inr}
 use Rattle.std.proofs.Math.Seq.{ext_get_or}
 use borrow.Author.Tests.{eq-eqb, ne_eqb, lt-ltb, le-ltb, eqb-true, not-false}
 use Rattle.endian.specs.Bytes.{be32}
-use Rattle.rules.specs.Counting.{◌if◌else◌}
 use Rattle.rules.specs.Anodes.{anodes_of}
 use Rattle.rules.specs.Accepted.{check_answer}
 use Rattle.rules.specs.Calls.{settled, done_or}

@@ -7,10 +7,12 @@ ghost use Rattle.rules.specs.Lookup.{bytes_of};
 ghost use Rattle.differences.specs.Fields.{byte_differs, bytes_differing, first_byte_differing};
 ghost use Rattle.anodes.specs.Loaded.{anodes_from};
 ghost use Rattle.byte_differences.specs.Differing.{first_bytes, differing_made};
-ghost use Rattle.byte_differences.specs.BytesCompared.{many_in, first_in, BytesCompared, place_made, PlaceWithin, Entering, Settled, PartLength};
+ghost use Rattle.byte_differences.specs.BytesCompared.{many_in, first_in, BytesCompared, place_made, extents_of, PlaceWithin, StartsAt, Entering, Settled, PartLength};
+ghost use Rattle.links.specs.Links.{anodes_left};
 
 use disk::AnodeNo;
-use endian::{part, smaller};
+use endian::part;
+use links::Links;
 use tables::entry;
 
 // The first byte that differs, 0 where none does, and how many differ.
@@ -20,13 +22,12 @@ pub struct Differing {
     pub many: u32,
 }
 
-// A place in a chain: where in the image the rest of an extent starts, how many bytes are left of it, the anode behind it, and how many anodes may still come.
+// A place in a chain: where in the image the rest of an extent starts, how many bytes are left of it, and the anodes behind it.
 #[derive(Clone, Copy)]
-struct Place {
+struct Place<'a> {
     from: usize,
     left: usize,
-    next: AnodeNo,
-    fuel: usize,
+    behind: Links<'a>,
 }
 
 // Whether some byte differs: no early way out, so that many bytes are compared at once.
@@ -35,10 +36,9 @@ fn any_differs(one: &[u8], other: &[u8]) -> bool
     ensures { result ≡ any_below (byte_differs one.now other.now) (length one.now) }
 {
     let mut any = false;
-    let mut i = 0;
-    while i < one.len() {
-        any = any | (one[i] != other[i]);
-        i += 1;
+    // one index over both, so that the loop stays flat
+    for i in 0..one.len() {
+        any |= one[i] != other[i];
     }
     any
 }
@@ -49,10 +49,9 @@ fn bytes_differing(one: &[u8], other: &[u8]) -> u32
     ensures { result ≡ many_in one.now other.now (length one.now) }
 {
     let mut many: u32 = 0;
-    let mut i = 0;
-    while i < one.len() {
+    // one index over both, so that the loop stays flat
+    for i in 0..one.len() {
         many += (one[i] != other[i]) as u32;
-        i += 1;
     }
     many
 }
@@ -62,14 +61,13 @@ fn first_byte_differing(one: &[u8], other: &[u8]) -> u32
     requires { (length one.now ≡ length other.now) × (length one.now ≤ 4096) }
     ensures { result ≡ first_in one.now other.now (length one.now) }
 {
-    let mut i = 0;
-    while i < one.len() {
+    // the index is the answer
+    for i in 0..one.len() {
         if one[i] != other[i] {
             return i as u32;
         }
-        i += 1;
     }
-    i as u32
+    one.len() as u32
 }
 
 // Compares as many bytes of one file as of another; most are the same, and then none is counted.
@@ -107,70 +105,59 @@ fn with_behind(d: Differing, at: u32, behind: Differing) -> Differing
     }
 }
 
-// The place before the first byte of an anode's extent.
-fn extent_start(
+// The place before the first byte of an anode's extent, with the anodes behind it.
+fn extent_start<'a>(
     image: &[u8],
     counts: &[u16],
     firsts: &[u16],
-    nexts: &[u16],
     anode: AnodeNo,
-    fuel: usize,
-) -> Place
-    ensures { Entering image.now (anodes_from counts.now firsts.now nexts.now) anode.0 fuel result }
+    behind: Links<'a>,
+) -> Place<'a>
+    ensures { Entering image.now (extents_of counts.now firsts.now) anode.0 (anodes_left behind.entry) result }
 {
     let a = anode.0 as usize;
-    let from = (entry(firsts, a) as usize) * 512;
-    let left = part(image, from, (entry(counts, a) as usize) * 512).len();
-    Place {
-        from,
-        left,
-        next: AnodeNo(entry(nexts, a)),
-        fuel,
-    }
+    let from = entry(firsts, a) as usize * 512;
+    let left = part(image, from, entry(counts, a) as usize * 512).len();
+    Place { from, left, behind }
 }
 
 // Goes on to an extent that has bytes left, if there is one.
-fn next_bytes(image: &[u8], counts: &[u16], firsts: &[u16], nexts: &[u16], p: Place) -> Place
+fn next_bytes<'a>(image: &[u8], counts: &[u16], firsts: &[u16], p: Place<'a>) -> Place<'a>
     requires { PlaceWithin image.now p }
-    ensures { Settled image.now (anodes_from counts.now firsts.now nexts.now) p result }
+    ensures { Settled image.now (extents_of counts.now firsts.now) p.entry result }
 {
     let mut place = p;
-    while place.fuel > 0 {
-        if place.left > 0 {
-            return place;
+    // a while loop, for empty extents are passed over until one has bytes
+    while place.left == 0 {
+        let mut behind = place.behind;
+        match behind.next() {
+            None => return place,
+            Some(a) => place = extent_start(image, counts, firsts, a, behind),
         }
-        if place.next.0 == 0 {
-            return place;
-        }
-        let after = extent_start(image, counts, firsts, nexts, place.next, place.fuel - 1);
-        place = after;
     }
     place
 }
 
 // The place `n` bytes on in the same extent.
-fn moved_on(p: Place, n: usize) -> Place
+fn moved_on<'a>(p: Place<'a>, n: usize) -> Place<'a>
     requires { (n ≤ p.left) × (p.from + p.left ≤ 67107840) }
-    ensures { result ≡ place_made (p.from + n) (p.left - n) p.next.0 p.fuel }
+    ensures { result ≡ place_made (p.entry.from + n) (p.entry.left - n) p.entry.behind }
 {
-    let next = p.next;
     Place {
         from: p.from + n,
         left: p.left - n,
-        next,
-        fuel: p.fuel,
+        behind: p.behind,
     }
 }
 
 // The place before the first byte of a chain.
-fn started(head: AnodeNo) -> Place
-    ensures { result ≡ place_made 0 0 head.0 3444 }
+fn started<'a>(nexts: &'a [u16], head: AnodeNo) -> Place<'a>
+    ensures { StartsAt nexts.now head.0 result }
 {
     Place {
         from: 0,
         left: 0,
-        next: head,
-        fuel: 3444,
+        behind: Links::along(nexts, head),
     }
 }
 
@@ -178,8 +165,7 @@ fn started(head: AnodeNo) -> Place
 fn part_length(left: usize, other_left: usize, rest: u32) -> u32
     ensures { PartLength left other_left rest result }
 {
-    let n = smaller(smaller(left, other_left), smaller(rest as usize, 4096));
-    n as u32
+    left.min(other_left).min(rest as usize).min(4096) as u32
 }
 
 // Compares the first `common` bytes of two chains, which both have, part by part.
@@ -200,18 +186,18 @@ fn compare_common(
     requires common_in_bounds_2 { common ≤ length (bytes_of other.now (anodes_from other_counts.now other_firsts.now other_nexts.now) other_head.0) }
     ensures { BytesCompared (bytes_of image.now (anodes_from counts.now firsts.now nexts.now) head.0) (bytes_of other.now (anodes_from other_counts.now other_firsts.now other_nexts.now) other_head.0) common result }
 {
-    let mut here = started(head);
-    let mut there = started(other_head);
+    let mut here = started(nexts, head);
+    let mut there = started(other_nexts, other_head);
     let mut d = Differing { first: 0, many: 0 };
     let mut at: u32 = 0;
+    // a while loop, for each part is as long as both extents allow
     while at < common {
-        let one = next_bytes(image, counts, firsts, nexts, here);
-        let two = next_bytes(other, other_counts, other_firsts, other_nexts, there);
+        let one = next_bytes(image, counts, firsts, here);
+        let two = next_bytes(other, other_counts, other_firsts, there);
         let n = part_length(one.left, two.left, common - at);
         let len = n as usize;
         let behind = compare_parts(part(image, one.from, len), part(other, two.from, len));
-        let after = with_behind(d, at, behind);
-        d = after;
+        d = with_behind(d, at, behind);
         here = moved_on(one, len);
         there = moved_on(two, len);
         at += n;
@@ -253,7 +239,7 @@ pub fn differing_bytes(
     requires other_size_in_bounds { other_size ≤ length (bytes_of other.now (anodes_from other_counts.now other_firsts.now other_nexts.now) other_head.0) }
     ensures { result ≡ differing_made (first_byte_differing (first_bytes image.now counts.now firsts.now nexts.now head.0 size) (first_bytes other.now other_counts.now other_firsts.now other_nexts.now other_head.0 other_size)) (bytes_differing (first_bytes image.now counts.now firsts.now nexts.now head.0 size) (first_bytes other.now other_counts.now other_firsts.now other_nexts.now other_head.0 other_size)) }
 {
-    let common = smaller(size as usize, other_size as usize) as u32;
+    let common = size.min(other_size);
     let d = compare_common(
         image,
         counts,

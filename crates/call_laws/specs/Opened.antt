@@ -1,11 +1,11 @@
 -- The outcome of the calls that read an image, from the check's; what the check loaded of an image that it accepted.
-use Rattle.std.specs.Prelude.{ℕ, ◌≤◌, ◌≡◌, refl, ltb, length, drop, replicate}
+use Rattle.std.specs.Prelude.{ℕ, ◌≤◌, ◌≡◌, refl, ltb, length, drop, replicate, Result, Ok, Err}
 use Rattle.std.proofs.Math.Path.{sym, ap}
 use Rattle.std.proofs.Common.{◌∙◌, inl, inr, ltb-false}
 use mathlib.Core.List.{List, [], ◌∷◌, ◌++◌}
 use Rattle.std.proofs.Math.ListN.{get_or}
 use Rattle.disk.specs.declared.Refusal.{Refusal}
-use Rattle.disk.specs.Refusals.{number_of}
+use Rattle.disk.specs.Refusals.{number_of, answer_of}
 use Rattle.rules.specs.Anodes.{limit, anodes_of}
 use Rattle.rules.specs.Accepted.{disk_size, short_tables, check_answer}
 use Rattle.rules.specs.Changes.{Left, left}
@@ -13,9 +13,7 @@ use Rattle.rules.specs.Tables.{anode_entry, anode_table, block_table, table_left
 use Rattle.rules.specs.Lookup.{entry_named, entries_of, nth}
 use Rattle.rules.specs.Calls.{Outcome, outcome_of, settled, check_outcome, summary_of, done_or, left_after, summary_outcome, checked_first, span_refusal, bytes_read, read_answer, read_outcome, list_refusal, list_answer, fields_listed, name_listed, list_outcome}
 use Rattle.fsck.specs.declared.Tally.{Tally}
-use Rattle.fsck.specs.declared.Checked.{Checked}
-use Rattle.fsck.specs.declared.Checked.TheVariants.{Accepted, Refused}
-use Rattle.fsck.specs.Answers.{checked_number, Tallied, Opened}
+use Rattle.fsck.specs.Answers.{Tallied, Opened}
 use Rattle.counting.specs.Laws.{neither}
 use Rattle.laws.specs.Tests.{first_of_some, first_of-none}
 use Rattle.laws.specs.Acceptance.{passed_of}
@@ -24,16 +22,17 @@ use Rattle.change_laws.specs.Answers.{Late, own_tables, span_late, list_late}
 use Rattle.change_tables.specs.Leaves.{Leaves}
 use Rattle.change_tables.specs.Laws.{late_table}
 use Rattle.find.specs.Open.{Open}
-use Rattle.find.proofs.Laws.{refused_some, not_done}
+use Rattle.find.proofs.Laws.{not_done}
+use Rattle.disk.proofs.Laws.{number_some}
 
 -- the tables that 0 shows are those of every late answer
 late_tables : (k : ℕ) → Late k → (range : ℕ) (shown old : List ℕ) → table_left k range shown old ≡ table_left 0 range shown old
 late_tables k (inl e) range shown old = ap (λ (n : ℕ). table_left n range shown old) e
 late_tables k (inr l) range shown old = late_table k l range shown old
 
-module _ (img b₀ a₀ b a : List ℕ) (x : Checked) (e : outcome_of (checked_number x) img b a [] [] ≡ check_outcome img b₀ a₀) where
+module _ (img b₀ a₀ b a : List ℕ) (x : Result Tally Refusal) (e : outcome_of (answer_of x) img b a [] [] ≡ check_outcome img b₀ a₀) where
   -- what the check's own outcome says
-  module _ (k : ℕ) (is_k : checked_number x ≡ k) where
+  module _ (k : ℕ) (is_k : answer_of x ≡ k) where
     answers : check_answer img (length b₀) (length a₀) ≡ k
     unfolding check_outcome settled
     answers = ap (λ (o : Outcome). o.answer) (sym e) ∙ is_k
@@ -48,56 +47,49 @@ module _ (img b₀ a₀ b a : List ℕ) (x : Checked) (e : outcome_of (checked_n
 
   -- ---- refused
 
-  module _ (r : Refusal) (is : x ≡ Refused r) (k : ℕ) (n : k ≡ number_of r) where
-    number_k : checked_number x ≡ k
-    number_k = ap checked_number is ∙ sym n
+  module _ (r : Refusal) (is : x ≡ Err r) where
+    number_is : answer_of x ≡ number_of r
+    number_is = ap (answer_of {X = Tally}) is
 
-    pub answers_k : check_answer img (length b₀) (length a₀) ≡ k
-    answers_k = answers k number_k
-
-    some : 1 ≤ k
-    some = refused_some r k n
+    pub answers_k : check_answer img (length b₀) (length a₀) ≡ number_of r
+    answers_k = answers (number_of r) number_is
 
     -- its number comes before the call's own
-    pub first_k : (m : ℕ) → checked_first img b₀ a₀ m ≡ k
-    first_k m = first_of_some (check_answer img (length b₀) (length a₀)) m k answers_k some
+    pub first_k : (m : ℕ) → checked_first img b₀ a₀ m ≡ number_of r
+    first_k m = first_of_some (check_answer img (length b₀) (length a₀)) m (number_of r) answers_k (number_some r)
 
     -- a refused call leaves the image and the tables as the check does
-    pub settled_k : (output name : List ℕ) → outcome_of k img b a output name ≡ settled (left k img) b₀ a₀ output name
+    pub settled_k : (output name : List ℕ) → outcome_of (number_of r) img b a output name ≡ settled (left (number_of r) img) b₀ a₀ output name
     unfolding settled
-    settled_k output name = rw (← blocks-left k number_k, ← anodes_left_lem k number_k)
+    settled_k output name = rw (← blocks-left (number_of r) number_is, ← anodes_left_lem (number_of r) number_is)
 
-    pub check_refused : outcome_of k img b a [] [] ≡ check_outcome img b₀ a₀
-    unfolding check_outcome
-    check_refused = rw answers_k (settled_k [] [])
-
-    pub summary_refused : outcome_of k img b a (replicate 4 0) [] ≡ summary_outcome img b₀ a₀
+    pub summary_refused : outcome_of (number_of r) img b a (replicate 4 0) [] ≡ summary_outcome img b₀ a₀
     unfolding summary_outcome
-    summary_refused = rw (answers_k, not_done k some (summary_of img (anodes_of img)) (replicate 4 0)) (settled_k (replicate 4 0) [])
+    summary_refused = rw (answers_k, not_done (number_of r) (number_some r) (summary_of img (anodes_of img)) (replicate 4 0)) (settled_k (replicate 4 0) [])
 
-    pub read_refused : (h : ℕ) (name : List ℕ) (offset : ℕ) (out : List ℕ) → outcome_of k img b a out [] ≡ read_outcome img b₀ a₀ h name offset out
+    pub read_refused : (h : ℕ) (name : List ℕ) (offset : ℕ) (out : List ℕ) → outcome_of (number_of r) img b a out [] ≡ read_outcome img b₀ a₀ h name offset out
     unfolding read_outcome read_answer
-    read_refused h name offset out = rw (first_k (span_refusal img (anodes_of img) h name offset (length out)), not_done k some _ out) (settled_k out [])
+    read_refused h name offset out = rw (first_k (span_refusal img (anodes_of img) h name offset (length out)), not_done (number_of r) (number_some r) _ out) (settled_k out [])
 
-    pub list_refused : (h n : ℕ) → outcome_of k img b a (replicate 11 0) [] ≡ list_outcome img b₀ a₀ h n
+    pub list_refused : (h n : ℕ) → outcome_of (number_of r) img b a (replicate 11 0) [] ≡ list_outcome img b₀ a₀ h n
     unfolding list_outcome list_answer
     list_refused h n =
         rw (
           first_k (list_refusal img (anodes_of img) h n),
-          not_done {X = List ℕ} k some _ (replicate 11 0),
-          not_done {X = List ℕ} k some _ [],
+          not_done {X = List ℕ} (number_of r) (number_some r) _ (replicate 11 0),
+          not_done {X = List ℕ} (number_of r) (number_some r) _ [],
         )
         (settled_k (replicate 11 0) [])
 
     -- a change is not made
-    pub change_refused : (m : ℕ) (done : Left) → outcome_of k img b a [] [] ≡ settled (left_after (checked_first img b₀ a₀ m) img done) b₀ a₀ [] []
-    change_refused m done = rw (first_k m, not_done k some done (left k img)) (settled_k [] [])
+    pub change_refused : (m : ℕ) (done : Left) → outcome_of (number_of r) img b a [] [] ≡ settled (left_after (checked_first img b₀ a₀ m) img done) b₀ a₀ [] []
+    change_refused m done = rw (first_k m, not_done (number_of r) (number_some r) done (left (number_of r) img)) (settled_k [] [])
 
   -- ---- accepted
 
-  module _ (t : Tally) (is : x ≡ Accepted t) where
-    number_0 : checked_number x ≡ 0
-    number_0 = ap checked_number is
+  module _ (t : Tally) (is : x ≡ Ok t) where
+    number_0 : answer_of x ≡ 0
+    number_0 = ap (answer_of {X = Tally}) is
 
     pub answers-0 : check_answer img (length b₀) (length a₀) ≡ 0
     answers-0 = answers 0 number_0
@@ -121,10 +113,6 @@ module _ (img b₀ a₀ b a : List ℕ) (x : Checked) (e : outcome_of (checked_n
     pub settled_late : (k : ℕ) → Late k → (output name : List ℕ) → outcome_of k img b a output name ≡ settled (left k img) b₀ a₀ output name
     unfolding settled
     settled_late k l output name = rw (blocks_late k l, anodes_late k l)
-
-    pub check_accepted : outcome_of 0 img b a [] [] ≡ check_outcome img b₀ a₀
-    unfolding check_outcome
-    check_accepted = rw answers-0 (settled_late 0 (inl refl) [] [])
 
     pub summary_accepted : Tallied x img (anodes_of img) → (n : ℕ) → n ≡ disk_size img → outcome_of 0 img b a (n ∷ t.free ∷ t.files ∷ t.dirs ∷ []) [] ≡ summary_outcome img b₀ a₀
     unfolding summary_outcome done_or summary_of

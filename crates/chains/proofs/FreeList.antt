@@ -1,8 +1,9 @@
 -- 9, one anode after the other.
-use Prim.Native.Nat.{ℕ, ◌+◌}
+use Prim.Native.Nat.{ℕ, zero, suc, ◌+◌}
 use mathlib.Core.Path.{◌≡◌, refl, sym, ◌∙◌}
-use mathlib.Core.Logic.{◌≢◌}
-use mathlib.Core.Bool.{Bool, true, false, ◌||◌, or-true, or_assoc}
+use mathlib.Core.Logic.{◌≢◌, inl, inr}
+use mathlib.Core.Bool.{Bool, true, false, not, ◌&&◌, ◌||◌, or-true, or_assoc}
+use mathlib.Core.List.{List, [], ◌∷◌}
 use native.Mathlib.Omega.{arith}
 use lib.Dec.{eqb}
 use borrow.Author.Tests.{ne_eqb}
@@ -10,6 +11,7 @@ use Rattle.rules.specs.Counting.{one_at, occurrences, any_in}
 use Rattle.rules.specs.Anodes.{Anodes}
 use Rattle.rules.specs.Chains.{chain_of, cut, side}
 use Rattle.rules.specs.Accepted.{not_above, not_up_to, wrong_free_list}
+use Rattle.laws.specs.Tests.{same?}
 use Rattle.laws.specs.Chains.{chain-none, chain-end, chain_step}
 use Rattle.laws.specs.Sums.{one_at-same, one_at_other}
 use Rattle.laws.specs.Bags.{occurrences-nil, occurrences-cons}
@@ -18,30 +20,31 @@ use Rattle.chains.specs.FreeList.{wrong_before}
 -- ---- a test along a chain
 
 module _ (t : ℕ → Bool) (next : ℕ → ℕ) where
-  pub any_none : (k a : ℕ) → k ≡ 0 → any_in t (chain_of next k a) ≡ false
-  unfolding any_in
-  any_none k a e = rw (chain-none next k a e)
-
-  pub any_end : (k a : ℕ) → a ≡ 0 → any_in t (chain_of next k a) ≡ false
+  any_end : (k a : ℕ) → a ≡ 0 → any_in t (chain_of next k a) ≡ false
   unfolding any_in
   any_end k a e = rw (chain-end next k a e)
 
-  pub any_step : (k m a : ℕ) → k ≡ m + 1 → a ≢ 0 → (b : Bool) → t a ≡ b → any_in t (chain_of next k a) ≡ (b || any_in t (chain_of next m (next a)))
+  any_step : (k m a : ℕ) → k ≡ m + 1 → a ≢ 0 → (b : Bool) → t a ≡ b → any_in t (chain_of next k a) ≡ (b || any_in t (chain_of next m (next a)))
   unfolding any_in
   any_step k m a e h b is = rw (chain_step next k m a e h, is)
 
 -- ---- before anode 2
 
+-- before 2 is met, an anode has an extent that is not above last reserved, or the list ends
+unfoldable pub before_in : Anodes → ℕ → List ℕ → Bool
+before_in s last [] = true
+before_in s last (a ∷ l) = not (eqb a 2) && (not_above s last a || before_in s last l)
+
 module _ (s : Anodes) (last : ℕ) where
-  pub before-none : (k a : ℕ) → k ≡ 0 → wrong_before s last k a ≡ true
+  before-none : (k a : ℕ) → k ≡ 0 → wrong_before s last k a ≡ true
   unfolding wrong_before
   before-none k a e = rw (chain-none s.next k a e, occurrences-nil 2)
 
-  pub before-end : (k a : ℕ) → a ≡ 0 → wrong_before s last k a ≡ true
+  before-end : (k a : ℕ) → a ≡ 0 → wrong_before s last k a ≡ true
   unfolding wrong_before
   before-end k a e = rw (chain-end s.next k a e, occurrences-nil 2)
 
-  pub before-two : (k m a : ℕ) → k ≡ m + 1 → a ≡ 2 → wrong_before s last k a ≡ false
+  before-two : (k m a : ℕ) → k ≡ m + 1 → a ≡ 2 → wrong_before s last k a ≡ false
   unfolding wrong_before
   before-two k m a e two =
       let n : one_at 2 2 + occurrences 2 (chain_of s.next m (s.next 2)) ≢ 0 = λ z. omega (arith, one_at-same 2 2 refl) in
@@ -67,12 +70,20 @@ module _ (s : Anodes) (last : ℕ) where
           any_step (not_above s last) (cut s.next) k m a fuel some (not_above s last a) refl,
         )
 
-    pub before_hit : not_above s last a ≡ true → wrong_before s last k a ≡ true
-    before_hit p = before-one ∙ rw (p, or-true)
-
-    pub before_step : not_above s last a ≡ false → wrong_before s last k a ≡ wrong_before s last m (s.next a)
+    before_more : (b : Bool) → not_above s last a ≡ b → wrong_before s last k a ≡ (b || wrong_before s last m (s.next a))
     unfolding wrong_before cut
-    before_step p = before-one ∙ rw p
+    before_more true p = before-one ∙ rw (p, or-true)
+    before_more false p = before-one ∙ rw p
+
+  -- the same over the anodes of the chain
+  pub before_chain : (k a : ℕ) → wrong_before s last k a ≡ before_in s last (chain_of s.next k a)
+  unfolding chain_of before_in
+  before_chain zero a = before-none 0 a refl
+  before_chain (suc k) zero = before-end (suc k) 0 refl
+  before_chain (suc k) (suc a) = elim (same? (suc a) 2) [
+    | inl e ↦ before-two (suc k) k (suc a) (omega arith) e ∙ rw e
+    | inr e ↦ before_more (suc k) k (suc a) (omega arith) (λ z. omega arith) e (not_above s last (suc a)) refl ∙ rw (before_chain k (s.next (suc a)), ne_eqb (suc a) 2 e)
+  ]
 
   pub free_list : wrong_free_list s last ≡ (wrong_before s last 3444 1 || any_in (not_up_to s last) (chain_of s.next 3444 2))
   unfolding wrong_free_list wrong_before side

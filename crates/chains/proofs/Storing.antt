@@ -2,10 +2,11 @@
 use Prim.Native.Nat.{ℕ, zero, suc, ◌+◌, ◌<◌}
 use mathlib.Core.Path.{◌≡◌, refl, ◌∙◌}
 use mathlib.Core.Logic.{◌≢◌, inl, inr}
-use mathlib.Core.List.{List}
+use mathlib.Core.List.{List, [], ◌∷◌}
 use native.Mathlib.Numerals.{add-one}
 use lib.ListN.{length, get_or, set, length-set, get_or-eq_default}
 use lib.Seq.{get_or-set_same, get_or-set_other}
+use Rattle.rules.specs.Chains.{chain_of}
 use Rattle.laws.specs.Tests.{same?, less?}
 use Rattle.chains.specs.Storing.{stored_along}
 
@@ -20,15 +21,18 @@ set-kept v some m i x h = elim (same? x i) [
   | inr e ↦ rw (get_or-set_other m i x v 0 e) h
 ]
 
-module _ (links : List ℕ) (v : ℕ) where
-  pub stored-none : (k : ℕ) (m : List ℕ) (a : ℕ) → k ≡ 0 → stored_along k links m v a ≡ m
-  unfolding stored_along
-  stored-none k m a e = rw e
+-- a number stored at each place of a list, one after the other
+unfoldable pub stored_in : ℕ → List ℕ → List ℕ → List ℕ
+stored_in v [] m = m
+stored_in v (a ∷ l) m = stored_in v l (set m a v)
 
-  pub stored-end : (k : ℕ) (m : List ℕ) (a : ℕ) → a ≡ 0 → stored_along k links m v a ≡ m
-  unfolding stored_along
-  stored-end zero m a e = refl
-  stored-end (suc k) m a e = rw e
+module _ (links : List ℕ) (v : ℕ) where
+  -- along links these places are the chain
+  pub stored_chain : (k : ℕ) (m : List ℕ) (a : ℕ) → stored_along k links m v a ≡ stored_in v (chain_of (λ x. get_or links x 0) k a) m
+  unfolding stored_along chain_of stored_in
+  stored_chain zero m a = refl
+  stored_chain (suc k) m zero = refl
+  stored_chain (suc k) m (suc a) = stored_chain k (set m (suc a) v) (get_or links (suc a) 0)
 
   pub stored_step : (k j a : ℕ) (m : List ℕ) → k ≡ j + 1 → a ≢ 0 → stored_along k links m v a ≡ stored_along j links (set m a v) v (get_or links a 0)
   unfolding stored_along

@@ -16,6 +16,8 @@ ghost use Rattle.chains.specs.Endings.{EndsBelow, unmarked, Ends};
 ghost use Rattle.chains.specs.FreeList.{wrong_before};
 ghost use Rattle.chains.specs.Filling.{FilledBelow};
 
+use disk::AnodeNo;
+use links::Links;
 use tables::{entry, set_entry, zero_first, zeros_from};
 
 // Anode `a` is not an empty one in use: its count is not 0, or its block not 65535.
@@ -230,44 +232,30 @@ fn fixed_has_pred(preds: &[u16]) -> bool
 }
 
 // Stores `v` at `from` and along the links from there, until 0 and at most 3,444 times.
-fn store_along(links: &[u16], table: &mut [u16], v: u16, from: usize)
-    ensures { table.new ≡ stored_along 3444 links.now table.old v from }
+fn store_along(links: &[u16], table: &mut [u16], v: u16, from: AnodeNo)
+    ensures { table.new ≡ stored_along 3444 links.now table.old v from.0 }
 {
-    let mut at = from;
-    let mut fuel: usize = 3444;
-    while 0 < fuel {
-        if at == 0 {
-            return;
-        }
-        set_entry(table, at, v);
-        at = entry(links, at) as usize;
-        fuel -= 1;
+    for a in Links::along(links, from) {
+        set_entry(table, a.0 as usize, v);
     }
 }
 
 // Marks the chain of `a`, from there back, where `a` is its last anode.
-fn mark_end(firsts: &[u16], nexts: &[u16], preds: &[u16], marks: &mut [u16], a: usize)
+fn mark_end(firsts: &[u16], nexts: &[u16], preds: &[u16], marks: &mut [u16], a: u16)
     requires { (a < 3444) × (length nexts.now ≡ 3444) × (get_or nexts.now 0 0 ≡ 0) × PredTable preds.now nexts.now × EndsBelow marks.old nexts.now firsts.now a }
     ensures { EndsBelow marks.new nexts.now firsts.now (a + 1) }
 {
-    if entry(firsts, a) == 0 {
+    if entry(firsts, a as usize) == 0 {
         return;
     }
-    if entry(nexts, a) != 0 {
+    if entry(nexts, a as usize) != 0 {
         return;
     }
-    store_along(preds, marks, 1, a);
+    store_along(preds, marks, 1, AnodeNo(a));
 }
 
 // Marks the chains whose last anode is one from `from` up to `end`.
-fn mark_run(
-    firsts: &[u16],
-    nexts: &[u16],
-    preds: &[u16],
-    marks: &mut [u16],
-    from: usize,
-    end: usize,
-)
+fn mark_run(firsts: &[u16], nexts: &[u16], preds: &[u16], marks: &mut [u16], from: u16, end: u16)
     requires { (from ≤ end) × (end ≤ 3444) × (length nexts.now ≡ 3444) × (get_or nexts.now 0 0 ≡ 0) × PredTable preds.now nexts.now × EndsBelow marks.old nexts.now firsts.now from }
     ensures { EndsBelow marks.new nexts.now firsts.now end }
 {
@@ -277,11 +265,11 @@ fn mark_run(
 }
 
 // The same for the 82 anodes from `from` on, which are passed over where all are free.
-fn mark_chunk(firsts: &[u16], nexts: &[u16], preds: &[u16], marks: &mut [u16], from: usize)
+fn mark_chunk(firsts: &[u16], nexts: &[u16], preds: &[u16], marks: &mut [u16], from: u16)
     requires { (from + 82 ≤ 3444) × (length nexts.now ≡ 3444) × (get_or nexts.now 0 0 ≡ 0) × PredTable preds.now nexts.now × EndsBelow marks.old nexts.now firsts.now from }
     ensures { EndsBelow marks.new nexts.now firsts.now (from + 82) }
 {
-    if zeros_from(firsts, from) {
+    if zeros_from(firsts, from as usize) {
         return;
     }
     mark_run(firsts, nexts, preds, marks, from, from + 82);
@@ -384,7 +372,7 @@ fn fill_head(firsts: &[u16], nexts: &[u16], preds: &[u16], heads: &mut [u16], a:
     if entry(preds, from) != 0 {
         return;
     }
-    store_along(nexts, heads, a, from);
+    store_along(nexts, heads, a, AnodeNo(a));
 }
 
 // Stores each head from `from` up to `end` along its chain.
@@ -444,20 +432,15 @@ fn not_above(count: u16, first: u16, last: u16) -> bool
 fn wrong_before_two(counts: &[u16], firsts: &[u16], nexts: &[u16], last: u16) -> bool
     ensures { result ≡ wrong_before (anodes_from counts.now firsts.now nexts.now) last 3444 1 }
 {
-    let mut at: usize = 1;
-    let mut fuel: usize = 3444;
-    while 0 < fuel {
-        if at == 2 {
+    for a in Links::along(nexts, AnodeNo(1)) {
+        if a.0 == 2 {
             return false;
         }
-        if at == 0 {
+        let count = entry(counts, a.0 as usize);
+        let first = entry(firsts, a.0 as usize);
+        if not_above(count, first, last) {
             return true;
         }
-        if not_above(entry(counts, at), entry(firsts, at), last) {
-            return true;
-        }
-        at = entry(nexts, at) as usize;
-        fuel -= 1;
     }
     true
 }
@@ -466,17 +449,12 @@ fn wrong_before_two(counts: &[u16], firsts: &[u16], nexts: &[u16], last: u16) ->
 fn wrong_from_two(counts: &[u16], firsts: &[u16], nexts: &[u16], last: u16) -> bool
     ensures { result ≡ any_in (not_up_to (anodes_from counts.now firsts.now nexts.now) last) (chain_of (anodes_from counts.now firsts.now nexts.now).next 3444 2) }
 {
-    let mut at: usize = 2;
-    let mut fuel: usize = 3444;
-    while 0 < fuel {
-        if at == 0 {
-            return false;
-        }
-        if ends_past(entry(counts, at), entry(firsts, at), last as usize + 1) {
+    for a in Links::along(nexts, AnodeNo(2)) {
+        let count = entry(counts, a.0 as usize);
+        let first = entry(firsts, a.0 as usize);
+        if ends_past(count, first, last as usize + 1) {
             return true;
         }
-        at = entry(nexts, at) as usize;
-        fuel -= 1;
     }
     false
 }

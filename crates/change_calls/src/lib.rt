@@ -2,10 +2,11 @@
 #![tactic(auto)]
 
 ghost use Rattle.std.specs.Prelude.{[], ◌≡◌};
+ghost use Rattle.disk.specs.Refusals.{answer_of};
 ghost use Rattle.rules.specs.Calls.{outcome_of, make_outcome, resize_outcome, write_outcome, remove_outcome};
 
-use disk::{AnodeNo, number};
-use fsck::{Checked, open_disk};
+use disk::{AnodeNo, Refusal};
+use fsck::DiskTables;
 use named_changes::{make_named, remove_named, resize_named, write_named};
 
 // Makes a file of type 253 or a directory of type 2; a refused call leaves the image.
@@ -21,46 +22,30 @@ pub fn make(
     minute: u16,
     tick: u16,
     protection: u8,
-) -> u32
-    ensures { outcome_of result image.new blocks.new anodes.new [] [] ≡ make_outcome image.old blocks.old anodes.old directory kind name.now comment.now day minute tick protection }
+) -> Result<(), Refusal>
+    ensures { outcome_of (answer_of result) image.new blocks.new anodes.new [] [] ≡ make_outcome image.old blocks.old anodes.old directory kind name.now comment.now day minute tick protection }
 {
-    let mut counts = [0u16; 3444];
-    let mut firsts = [0u16; 3444];
-    let mut nexts = [0u16; 3444];
-    let mut queue = [0u16; 3444];
-    let mut parents = [0u16; 3444];
-    let c = open_disk(
+    let mut tables = DiskTables::empty();
+    let t = tables.open(image, blocks, anodes)?;
+    make_named(
         image,
         blocks,
         anodes,
-        &mut counts,
-        &mut firsts,
-        &mut nexts,
-        &mut queue,
-        &mut parents,
-    );
-    match c {
-        Checked::Accepted(t) => make_named(
-            image,
-            blocks,
-            anodes,
-            &counts,
-            &firsts,
-            &nexts,
-            &queue,
-            &parents,
-            t.dirs,
-            AnodeNo(directory),
-            kind,
-            name,
-            comment,
-            day,
-            minute,
-            tick,
-            protection,
-        ),
-        Checked::Refused(r) => number(r),
-    }
+        &tables.counts,
+        &tables.firsts,
+        &tables.nexts,
+        &tables.queue,
+        &tables.parents,
+        t.dirs,
+        AnodeNo(directory),
+        kind,
+        name,
+        comment,
+        day,
+        minute,
+        tick,
+        protection,
+    )
 }
 
 // Gives a file another size; a refused call leaves the image.
@@ -71,40 +56,24 @@ pub fn resize(
     directory: u16,
     name: &[u8],
     size: u64,
-) -> u32
-    ensures { outcome_of result image.new blocks.new anodes.new [] [] ≡ resize_outcome image.old blocks.old anodes.old directory name.now size }
+) -> Result<(), Refusal>
+    ensures { outcome_of (answer_of result) image.new blocks.new anodes.new [] [] ≡ resize_outcome image.old blocks.old anodes.old directory name.now size }
 {
-    let mut counts = [0u16; 3444];
-    let mut firsts = [0u16; 3444];
-    let mut nexts = [0u16; 3444];
-    let mut queue = [0u16; 3444];
-    let mut parents = [0u16; 3444];
-    let c = open_disk(
+    let mut tables = DiskTables::empty();
+    let t = tables.open(image, blocks, anodes)?;
+    resize_named(
         image,
         blocks,
         anodes,
-        &mut counts,
-        &mut firsts,
-        &mut nexts,
-        &mut queue,
-        &mut parents,
-    );
-    match c {
-        Checked::Accepted(t) => resize_named(
-            image,
-            blocks,
-            anodes,
-            &counts,
-            &firsts,
-            &nexts,
-            &queue,
-            t.dirs,
-            AnodeNo(directory),
-            name,
-            size,
-        ),
-        Checked::Refused(r) => number(r),
-    }
+        &tables.counts,
+        &tables.firsts,
+        &tables.nexts,
+        &tables.queue,
+        t.dirs,
+        AnodeNo(directory),
+        name,
+        size,
+    )
 }
 
 // Replaces bytes of a file from the offset on, within its size; a refused call leaves the image.
@@ -116,40 +85,24 @@ pub fn write(
     name: &[u8],
     offset: u64,
     bytes: &[u8],
-) -> u32
-    ensures { outcome_of result image.new blocks.new anodes.new [] [] ≡ write_outcome image.old blocks.old anodes.old directory name.now offset bytes.now }
+) -> Result<(), Refusal>
+    ensures { outcome_of (answer_of result) image.new blocks.new anodes.new [] [] ≡ write_outcome image.old blocks.old anodes.old directory name.now offset bytes.now }
 {
-    let mut counts = [0u16; 3444];
-    let mut firsts = [0u16; 3444];
-    let mut nexts = [0u16; 3444];
-    let mut queue = [0u16; 3444];
-    let mut parents = [0u16; 3444];
-    let c = open_disk(
+    let mut tables = DiskTables::empty();
+    let t = tables.open(image, blocks, anodes)?;
+    write_named(
         image,
-        blocks,
+        &tables.counts,
+        &tables.firsts,
+        &tables.nexts,
+        &tables.queue,
         anodes,
-        &mut counts,
-        &mut firsts,
-        &mut nexts,
-        &mut queue,
-        &mut parents,
-    );
-    match c {
-        Checked::Accepted(t) => write_named(
-            image,
-            &counts,
-            &firsts,
-            &nexts,
-            &queue,
-            anodes,
-            t.dirs,
-            AnodeNo(directory),
-            name,
-            offset,
-            bytes,
-        ),
-        Checked::Refused(r) => number(r),
-    }
+        t.dirs,
+        AnodeNo(directory),
+        name,
+        offset,
+        bytes,
+    )
 }
 
 // Removes a file or an empty directory; a refused call leaves the image.
@@ -159,37 +112,21 @@ pub fn remove(
     anodes: &mut [u16],
     directory: u16,
     name: &[u8],
-) -> u32
-    ensures { outcome_of result image.new blocks.new anodes.new [] [] ≡ remove_outcome image.old blocks.old anodes.old directory name.now }
+) -> Result<(), Refusal>
+    ensures { outcome_of (answer_of result) image.new blocks.new anodes.new [] [] ≡ remove_outcome image.old blocks.old anodes.old directory name.now }
 {
-    let mut counts = [0u16; 3444];
-    let mut firsts = [0u16; 3444];
-    let mut nexts = [0u16; 3444];
-    let mut queue = [0u16; 3444];
-    let mut parents = [0u16; 3444];
-    let c = open_disk(
+    let mut tables = DiskTables::empty();
+    let t = tables.open(image, blocks, anodes)?;
+    remove_named(
         image,
         blocks,
         anodes,
-        &mut counts,
-        &mut firsts,
-        &mut nexts,
-        &mut queue,
-        &mut parents,
-    );
-    match c {
-        Checked::Accepted(t) => remove_named(
-            image,
-            blocks,
-            anodes,
-            &counts,
-            &firsts,
-            &nexts,
-            &queue,
-            t.dirs,
-            AnodeNo(directory),
-            name,
-        ),
-        Checked::Refused(r) => number(r),
-    }
+        &tables.counts,
+        &tables.firsts,
+        &tables.nexts,
+        &tables.queue,
+        t.dirs,
+        AnodeNo(directory),
+        name,
+    )
 }

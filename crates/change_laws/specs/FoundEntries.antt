@@ -1,5 +1,5 @@
 -- The entries of a directory block, one by one: what a found one says, and that its bytes at another place, or in another block, are the same entry.
-use Rattle.std.specs.Prelude.{ℕ, zero, suc, ◌+◌, ◌-◌, ◌*◌, ◌≤◌, ◌<◌, ◌≡◌, refl, ◌⊎◌, ◌&&◌, eqb, leb, length}
+use Rattle.std.specs.Prelude.{ℕ, zero, suc, ◌+◌, ◌-◌, ◌*◌, ◌≤◌, ◌<◌, ◌≡◌, refl, ◌⊎◌, ◌&&◌, eqb, leb, length, Some, None, Ok, Err}
 use Rattle.std.proofs.Common.{sym, ap, ◌∙◌, subst, inl, inr, true≢false, arith, add-zero}
 use Rattle.std.proofs.Math.Path.{fun_ext}
 use Rattle.std.proofs.Math.Bool.{cond}
@@ -12,8 +12,7 @@ use Rattle.endian.proofs.Laws.{be16-bytes, be32_halves, part_same}
 use Rattle.disk.specs.declared.Refusal.TheVariants.{DirectoryBlock}
 use Rattle.directory.specs.declared.Entry.{Entry}
 use Rattle.directory.specs.declared.Kind.{Kind}
-use Rattle.directory.specs.declared.Walked.{Walked}
-use Rattle.directory.specs.declared.Walked.TheVariants.{Found, End, Fault}
+use Rattle.directory.specs.Entries.{Walked}
 use Rattle.directory.specs.Entries.{directory_header_in, kind_read, good_name, entry_length, name_length, comment_length, name_in, entry_shaped, entry_in, walked_kind, walked_at}
 use Rattle.directory.proofs.Laws.{FoundAt, found_at, end-at}
 use Rattle.rules.specs.Counting.{any_in}
@@ -76,14 +75,14 @@ module _ (b b' : List ℕ) (at at' : ℕ) (whole : length b ≡ 512) (whole' : l
     same 1 (omega (arith, f.long)),
     le-leb (at' + get_or b at 0) 510 room',
     le-leb (at + get_or b at 0) 510 f.room,
-  ) (ap (λ (h : Kind → Entry). cond (eqb (get_or b at 0) 0) End (cond (eqb (get_or b at 0) (entry_length (name_length b at) (comment_length b at)) && (leb (comment_length b at) 79 && good_name (name_in b at)))
-      (walked_kind (kind_read (get_or b (at + 1) 0)) h) (Fault DirectoryBlock))) (fun_ext same_fields))
+  ) (ap (λ (h : Kind → Entry). cond (eqb (get_or b at 0) 0) (Ok None) (cond (eqb (get_or b at 0) (entry_length (name_length b at) (comment_length b at)) && (leb (comment_length b at) 79 && good_name (name_in b at)))
+      (walked_kind (kind_read (get_or b (at + 1) 0)) h) (Err DirectoryBlock))) (fun_ext same_fields))
 
 -- ---- the entries from a place on
 
 -- the end mark stands there, or an entry, and none behind it is broken
 abbrev pub EndOrEntry : List ℕ → ℕ → ℕ → ℕ → Type 0
-EndOrEntry b y m at = (walked_at b at ≡ End) ⊎ ((x : Entry) × (walked_at b at ≡ Found x) × Unbroken (entries_from m b y (at + get_or b at 0)))
+EndOrEntry b y m at = (walked_at b at ≡ Ok None) ⊎ ((x : Entry) × (walked_at b at ≡ Ok (Some x)) × Unbroken (entries_from m b y (at + get_or b at 0)))
 
 -- where none is broken, it is so
 pub unbroken_cases : (b : List ℕ) (y m at : ℕ) → Unbroken (entries_from (suc m) b y at) → EndOrEntry b y m at
@@ -91,21 +90,21 @@ unfolding entries_from any_in
 unbroken_cases b y m at u = go (walked_at b at) refl u
   where
     go : (w : Walked) → walked_at b at ≡ w → Unbroken (with_rest w (name_in b at) (y * 512 + at) (entries_from m b y (at + get_or b at 0))) → EndOrEntry b y m at
-    go (Found x) e v = inr (x, e, v)
-    go End e v = inl e
-    go (Fault r) e v = absurd (true≢false v)
+    go (Ok (Some x)) e v = inr (x, e, v)
+    go (Ok None) e v = inl e
+    go (Err r) e v = absurd (true≢false v)
 
-pub end_more : (b : List ℕ) (m at : ℕ) (x : Entry) → walked_at b at ≡ Found x → end_from (suc m) b at ≡ end_from m b (at + get_or b at 0)
+pub end_more : (b : List ℕ) (m at : ℕ) (x : Entry) → walked_at b at ≡ Ok (Some x) → end_from (suc m) b at ≡ end_from m b (at + get_or b at 0)
 unfolding end_from
 end_more b m at x e = rw (ne_eqb (get_or b at 0) 0 (λ z. omega (arith, z, (found_at b at x e).long)))
 
-pub end-here : (b : List ℕ) (m at : ℕ) → walked_at b at ≡ End → end_from (suc m) b at ≡ at
+pub end-here : (b : List ℕ) (m at : ℕ) → walked_at b at ≡ Ok None → end_from (suc m) b at ≡ at
 unfolding end_from
 end-here b m at e = rw (end-at b at e)
 
 -- the end mark stands behind the entries; 28 entries never fit
 pub end_bounds : (b : List ℕ) (y k at : ℕ) → Unbroken (entries_from k b y at) → at ≤ 510 → 520 ≤ at + 18 * k →
-    (at ≤ end_from k b at) × (end_from k b at ≤ 510) × (walked_at b (end_from k b at) ≡ End)
+    (at ≤ end_from k b at) × (end_from k b at ≤ 510) × (walked_at b (end_from k b at) ≡ Ok None)
 end_bounds b y zero at u l f = absurd (omega (arith, l, f))
 end_bounds b y (suc m) at u l f = elim (unbroken_cases b y m at u) [
   | inl e ↦ rw (end-here b m at e) (omega arith, l, e)
@@ -117,7 +116,7 @@ end_bounds b y (suc m) at u l f = elim (unbroken_cases b y m at u) [
 -- an entry is found at its place in the block, and ends before the mark
 pub record Standing (b : List ℕ) (y at end : ℕ) (e : Entered) : Type 0 where
   pub entry : Entry
-  pub walked : walked_at b at ≡ Found entry
+  pub walked : walked_at b at ≡ Ok (Some entry)
   pub is : e ≡ entered_at entry (name_in b at) (y * 512 + at)
   pub before : at + get_or b at 0 ≤ end
 

@@ -1,5 +1,5 @@
 -- A directory block with the gap of one of its entries closed: the entries before it stay, those behind it stand as many bytes earlier as it had.
-use Rattle.std.specs.Prelude.{ℕ, zero, suc, ◌+◌, ◌-◌, ◌*◌, ◌≤◌, ◌<◌, ◌≡◌, List, ◌∷◌, ◌++◌, map, length, take, drop, replicate}
+use Rattle.std.specs.Prelude.{ℕ, zero, suc, ◌+◌, ◌-◌, ◌*◌, ◌≤◌, ◌<◌, ◌≡◌, List, ◌∷◌, ◌++◌, map, length, take, drop, replicate, Some, None, Ok}
 use Rattle.std.proofs.Math.Path.{refl, sym}
 use Rattle.std.proofs.Common.{ap, ◌∙◌, inl, inr, append_assoc, get_or-drop, length-take-le, get_or-append-add}
 use native.Mathlib.Omega.{arith}
@@ -8,7 +8,6 @@ use Rattle.std.proofs.lemmas.List.{get_or-replicate}
 use Rattle.std.proofs.Math.Seq.{get_or-take}
 use Rattle.endian.proofs.Laws.{part_same}
 use Rattle.directory.specs.declared.Entry.{Entry}
-use Rattle.directory.specs.declared.Walked.TheVariants.{Found, End}
 use Rattle.directory.specs.Entries.{directory_header_in, walked_at}
 use Rattle.directory.proofs.Laws.{found_at}
 use Rattle.rules.specs.Walk.{Entered, entries_from}
@@ -26,12 +25,12 @@ module _ (b b' : List ℕ) (y at len end : ℕ) (whole : length b ≡ 512) (whol
     (front : (i : ℕ) → i < at → get_or b' i 0 ≡ get_or b i 0)
     (behind : (i : ℕ) → at ≤ i → i + len < end → get_or b' i 0 ≡ get_or b (i + len) 0)
     (zeros : (i : ℕ) → end ≤ i + len → i < end → get_or b' i 0 ≡ 0) (some : 0 < len) where
-  ends : (i : ℕ) → get_or b' i 0 ≡ 0 → walked_at b' i ≡ End
+  ends : (i : ℕ) → get_or b' i 0 ≡ 0 → walked_at b' i ≡ Ok None
   unfolding walked_at
   ends i z = rw z
 
   -- the entries behind the gap
-  moved-first : (m p : ℕ) (x : Entry) → walked_at b (p + len) ≡ Found x → at ≤ p → p + len + get_or b (p + len) 0 ≤ end →
+  moved-first : (m p : ℕ) (x : Entry) → walked_at b (p + len) ≡ Ok (Some x) → at ≤ p → p + len + get_or b (p + len) 0 ≤ end →
       entries_from (suc m) b' y (p + get_or b (p + len) 0) ≡ map (lowered len) (entries_from m b y (p + get_or b (p + len) 0 + len)) →
       entries_from (suc (suc m)) b' y p ≡ map (lowered len) (entries_from (suc m) b y (p + len))
   moved-first m p x q l within rest =

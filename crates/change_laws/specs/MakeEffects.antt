@@ -1,5 +1,5 @@
 -- What a make leaves of all else: every directory is reached and has its entries, its own the new one too, and every file has its bytes.
-use Rattle.std.specs.Prelude.{ℕ, ◌+◌, ◌*◌, ◌/◌, ◌%◌, ◌≤◌, ◌<◌, ◌≡◌, ◌≢◌, Bool, true, false, cond, get_or, drop}
+use Rattle.std.specs.Prelude.{ℕ, ◌+◌, ◌*◌, ◌/◌, ◌%◌, ◌≤◌, ◌<◌, ◌≡◌, ◌≢◌, Bool, true, false, cond, get_or, drop, Some, Ok}
 use Rattle.std.proofs.Math.Path.{refl, sym, ap, ap₂}
 use Rattle.std.proofs.Common.{◌∙◌, arith, leb-true}
 use Rattle.std.proofs.Math.Logic.{inl, inr}
@@ -10,7 +10,6 @@ use Rattle.endian.proofs.Laws.{part_same}
 use Rattle.disk.specs.Blocks.{block_of}
 use Rattle.disk.proofs.Laws.{length-block_of}
 use Rattle.disk.proofs.Store.{get_or-block_of}
-use Rattle.directory.specs.declared.Walked.TheVariants.{Found}
 use Rattle.directory.specs.declared.Entry.{Entry}
 use Rattle.directory.specs.Entries.{good_comment, entry_length, walked_at, put_entry}
 use Rattle.directory.proofs.Laws.{length-put_entry, get_or-put_entry-before, name_in-put_entry, walked_at-put_entry}
@@ -253,7 +252,7 @@ module _ {img : List ℕ} {h : ℕ} {new : NewEntry} {f : ℕ} {room : Option �
   new_whole = length-block_of (before m) (t.block (spot m).anode) (inside_before m (t.block (spot m).anode) (spot_data m))
 
   -- the new one is found there with its fields
-  pub new-found : walked_at (block_of j (entry_start room zs / 512)) (entry_start room zs % 512) ≡ Found (entry_of new f)
+  pub new-found : walked_at (block_of j (entry_start room zs / 512)) (entry_start room zs % 512) ≡ Ok (Some (entry_of new f))
   unfolding entry_of good_comment
   new-found = rw (in_block_lem m, at-end m, entry_block_lem m)
       (walked_at-put_entry (block_of (before m) (t.block (spot m).anode)) (entries_end (block_of (before m) (t.block (spot m).anode))) (entry_of new f) new.name new.comment refl refl new_whole (spot m).fits m.named

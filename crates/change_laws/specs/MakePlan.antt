@@ -22,7 +22,7 @@ use Rattle.laws.specs.Tests.{same?, not_above}
 use Rattle.laws.specs.Sums.{one_at_cases, one_at-same, one_at_other, one_at-le, changed-same, changed_other}
 use Rattle.laws.specs.Bags.{occurrences-nil, occurrences-cons, occurrences-append}
 use Rattle.laws.specs.Heads.{Head, head_of_is, occurrences_on_chain}
-use Rattle.laws.specs.Blocks.{blocks, blocks_fresh}
+use Rattle.laws.specs.Blocks.{blocks_fresh}
 use Rattle.laws.specs.Space.{Good, good-same, FreeAnode}
 use Rattle.laws.specs.Owners.{full_used}
 use Rattle.laws.specs.Plans.{planned_same}

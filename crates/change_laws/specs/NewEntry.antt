@@ -1,12 +1,11 @@
 -- An entry put behind the last of a directory block, and a new directory block.
-use Rattle.std.specs.Prelude.{ℕ, zero, suc, ◌+◌, ◌*◌, ◌≤◌, ◌<◌, ◌≡◌, Bool, true, false, List, [], ◌∷◌, ◌++◌, leb, length, get_or, take, drop}
+use Rattle.std.specs.Prelude.{ℕ, zero, suc, ◌+◌, ◌*◌, ◌≤◌, ◌<◌, ◌≡◌, Bool, true, false, List, [], ◌∷◌, ◌++◌, leb, length, get_or, take, drop, Some, Ok}
 use Rattle.std.proofs.Math.Path.{refl, ap₂}
 use Rattle.std.proofs.Common.{sym, ap, ◌∙◌, inl, inr, arith, leb-true, length-set}
 use Rattle.std.proofs.Math.Option.{some, none-ne-some}
 use Rattle.endian.proofs.Laws.{length-put16, length-put32, length-stored, stored-cleared}
 use Rattle.disk.specs.Blocks.{block_of}
 use Rattle.directory.specs.declared.Entry.{Entry}
-use Rattle.directory.specs.declared.Walked.TheVariants.{Found}
 use Rattle.directory.specs.Entries.{directory_header_in, good_name, entry_length, entry_in, walked_at, put_entry}
 use Rattle.directory.proofs.Laws.{length-put_entry, get_or-put_entry-before, walked_at-put_entry-end, entry_in-put_entry, name_in-put_entry, walked_at-put_entry, found_at}
 use Rattle.rules.specs.Counting.{occurrences}
@@ -28,7 +27,7 @@ module _ (b : List ℕ) (y : ℕ) (e : Entry) (name comment : List ℕ) (whole :
   abbrev b' : List ℕ
   b' = put_entry b end e name comment
 
-  found : walked_at b' end ≡ Found e
+  found : walked_at b' end ≡ Ok (Some e)
   found = walked_at-put_entry b end e name comment named commented whole room good short
 
   first : get_or b' end 0 ≡ entry_length e.name e.comment

@@ -1,5 +1,5 @@
 -- A directory block with another size in one of its entries: that entry has the size, and nothing else changes.
-use Rattle.std.specs.Prelude.{ℕ, zero, suc, ◌+◌, ◌*◌, ◌≤◌, ◌<◌, ◌≡◌, ◌⊎◌, Bool, List, ◌∷◌, ◌++◌, eqb, length, get_or}
+use Rattle.std.specs.Prelude.{ℕ, zero, suc, ◌+◌, ◌*◌, ◌≤◌, ◌<◌, ◌≡◌, ◌⊎◌, Bool, List, ◌∷◌, ◌++◌, eqb, length, get_or, Some, None, Result, Ok, Err}
 use Rattle.std.proofs.Math.Path.{refl, ap}
 use Rattle.std.proofs.Common.{sym, ap₂, ◌∙◌, inl, inr, arith}
 use Rattle.std.proofs.Math.Bool.{true, false, cond}
@@ -8,10 +8,8 @@ use Rattle.endian.proofs.Laws.{be16-bytes, length-put32, get_or-put32_other, dro
 use Rattle.disk.specs.declared.Refusal.TheVariants.{DirectoryBlock}
 use Rattle.directory.specs.declared.Entry.{Entry}
 use Rattle.directory.specs.declared.Kind.{Kind}
-use Rattle.directory.specs.declared.KindRead.{KindRead}
-use Rattle.directory.specs.declared.KindRead.TheVariants.{Is, Neither}
-use Rattle.directory.specs.declared.Walked.{Walked}
-use Rattle.directory.specs.declared.Walked.TheVariants.{Found, End, Fault}
+use Rattle.directory.specs.declared.UnknownKind.{UnknownKind}
+use Rattle.directory.specs.Entries.{Walked}
 use Rattle.directory.specs.Entries.{directory_header_in, kind_read, name_length, comment_length, name_in, entry_shaped, entry_in, walked_kind, walked_at}
 use Rattle.directory.proofs.Laws.{found_at, end-at}
 use Rattle.rules.specs.Walk.{Entered, entries_from}
@@ -38,9 +36,9 @@ with_new new x = record {
 
 -- what stands at a place, with another size where it is an entry
 abbrev on_found : ℕ → Walked → Walked
-on_found new (Found x) = Found (with_new new x)
-on_found new End = End
-on_found new (Fault r) = Fault r
+on_found new (Ok (Some x)) = Ok (Some (with_new new x))
+on_found new (Ok None) = Ok None
+on_found new (Err r) = Err r
 
 -- ---- the bytes
 
@@ -93,11 +91,11 @@ module _ (b : List ℕ) (at new : ℕ) where
   unfolding walked_at
   walked_new l = rw (others at (inl (omega arith)), same_shape, others (at + 1) (inl (omega arith))) (go (eqb (get_or b at 0) 0) (entry_shaped b at) (kind_read (get_or b (at + 1) 0)))
     where
-      go : (p q : Bool) (k : KindRead) → cond p End (cond q (walked_kind k (entry_in b' at)) (Fault DirectoryBlock)) ≡ on_found new (cond p End (cond q (walked_kind k (entry_in b at)) (Fault DirectoryBlock)))
+      go : (p q : Bool) (k : Result Kind UnknownKind) → cond p (Ok None) (cond q (walked_kind k (entry_in b' at)) (Err DirectoryBlock)) ≡ on_found new (cond p (Ok None) (cond q (walked_kind k (entry_in b at)) (Err DirectoryBlock)))
       go true q k = refl
       go false false k = refl
-      go false true Neither = refl
-      go false true (Is k) = ap Found (new_fields l k)
+      go false true (Err w) = refl
+      go false true (Ok k) = ap (λ x. Ok (Some x)) (new_fields l k)
 
 -- ---- the entries
 

@@ -1,9 +1,26 @@
 -- What a comparison leaves of the second image, where the first is accepted: the answer, which image was refused, how many differences were handed out, the buffer and the second's tables.
-use Rattle.std.specs.Prelude.{ℕ, List, length}
+use Rattle.std.specs.Prelude.{ℕ, List, length, Result, Ok, Err}
+use Rattle.disk.specs.Refusals.{number_of}
+use Rattle.compare_calls.specs.declared.RefusedImage.{RefusedImage}
 use Rattle.rules.specs.Tables.{blocks_left, anodes_left}
 use Rattle.rules.specs.Calls.{done_or}
 use Rattle.differences.specs.Differences.{Difference, differences}
 use Rattle.differences.specs.Calls.{answer_for, fitting, with_numbers}
+
+-- the number that a comparison answers
+abbrev pub answer_in : Result ℕ RefusedImage → ℕ
+answer_in (Ok n) = 0
+answer_in (Err r) = number_of r.refusal
+
+-- which image was refused: 0 for neither
+abbrev pub image_in : Result ℕ RefusedImage → ℕ
+image_in (Ok n) = 0
+image_in (Err r) = r.image
+
+-- how many differences were handed out
+abbrev pub count_in : Result ℕ RefusedImage → ℕ
+count_in (Ok n) = n
+count_in (Err r) = 0
 
 -- all that is settled then
 pub record Second : Type 0 where

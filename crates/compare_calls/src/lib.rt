@@ -2,87 +2,62 @@
 #![tactic(auto)]
 
 ghost use Rattle.std.specs.Prelude.{◌∷◌, [], ◌≡◌};
+ghost use Rattle.disk.specs.Refusals.{answer_of};
 ghost use Rattle.differences.specs.Calls.{compared_of, compare_outcome, differences_outcome};
 ghost use Rattle.comparing.specs.Walked.{OpenWalk};
-ghost use Rattle.compare_calls.specs.Second.{second_made, second_outcome};
+ghost use Rattle.compare_calls.specs.Second.{answer_in, image_in, count_in, second_made, second_outcome};
 
 use comparing::hand_differences;
-use disk::number;
-use fsck::{Checked, open_disk};
+use disk::Refusal;
+use fsck::DiskTables;
 
-// How a comparison went: its answer, which image was refused, and how many differences were handed out.
+// Which image was refused, the first (1) or the second (2), and why.
 #[derive(Clone, Copy)]
-struct Comparison {
-    answer: u32,
-    refused: u32,
-    count: u32,
+struct RefusedImage {
+    image: u32,
+    refusal: Refusal,
 }
 
-// Checks the second image where the first is accepted, and hands out their differences from a place on.
+// Checks the second image where the first is accepted, and hands out their differences from a place on; how many.
 fn compare_second(
     image: &[u8],
-    counts: &[u16],
-    firsts: &[u16],
-    nexts: &[u16],
-    queue: &[u16],
+    tables: &DiskTables,
     dirs: u16,
     other: &[u8],
     other_blocks: &mut [u16],
     other_anodes: &mut [u16],
     place: u64,
     out: &mut [u32],
-) -> Comparison
-    requires { OpenWalk image.now counts.now firsts.now nexts.now queue.now dirs }
-    ensures { second_made result.answer result.refused result.count out.new other_blocks.new other_anodes.new ≡ second_outcome image.now other.now other_blocks.old other_anodes.old place out.old }
+) -> Result<u32, RefusedImage>
+    requires { OpenWalk image.now tables.now.counts tables.now.firsts tables.now.nexts tables.now.queue dirs }
+    ensures { second_made (answer_in result) (image_in result) (count_in result) out.new other_blocks.new other_anodes.new ≡ second_outcome image.now other.now other_blocks.old other_anodes.old place out.old }
 {
-    let mut other_counts = [0u16; 3444];
-    let mut other_firsts = [0u16; 3444];
-    let mut other_nexts = [0u16; 3444];
-    let mut other_queue = [0u16; 3444];
-    let mut other_parents = [0u16; 3444];
-    let c = open_disk(
-        other,
-        other_blocks,
-        other_anodes,
-        &mut other_counts,
-        &mut other_firsts,
-        &mut other_nexts,
-        &mut other_queue,
-        &mut other_parents,
-    );
-    match c {
-        Checked::Accepted(t) => {
+    let mut others = DiskTables::empty();
+    match others.open(other, other_blocks, other_anodes) {
+        Ok(t) => {
             let handed = hand_differences(
                 image,
-                counts,
-                firsts,
-                nexts,
-                queue,
+                &tables.counts,
+                &tables.firsts,
+                &tables.nexts,
+                &tables.queue,
                 dirs,
                 other,
-                &other_counts,
-                &other_firsts,
-                &other_nexts,
-                &other_queue,
+                &others.counts,
+                &others.firsts,
+                &others.nexts,
+                &others.queue,
                 t.dirs,
                 place,
                 out,
             );
-            Comparison {
-                answer: 0,
-                refused: 0,
-                count: (handed.done / 6) as u32,
-            }
+            Ok((handed.done / 6) as u32)
         }
-        Checked::Refused(r) => Comparison {
-            answer: number(r),
-            refused: 2,
-            count: 0,
-        },
+        Err(refusal) => Err(RefusedImage { image: 2, refusal }),
     }
 }
 
-// Checks both images, the second only after the first is accepted, and hands out their differences from a place on.
+// Checks both images, the second only after the first is accepted, and hands out their differences from a place on; how many.
 fn compare_into(
     image: &[u8],
     blocks: &mut [u16],
@@ -92,31 +67,14 @@ fn compare_into(
     other_anodes: &mut [u16],
     place: u64,
     out: &mut [u32],
-) -> Comparison
-    ensures { compared_of result.answer (result.refused ∷ result.count ∷ []) out.new blocks.new anodes.new other_blocks.new other_anodes.new ≡ differences_outcome image.now blocks.old anodes.old other.now other_blocks.old other_anodes.old place out.old }
+) -> Result<u32, RefusedImage>
+    ensures { compared_of (answer_in result) (image_in result ∷ count_in result ∷ []) out.new blocks.new anodes.new other_blocks.new other_anodes.new ≡ differences_outcome image.now blocks.old anodes.old other.now other_blocks.old other_anodes.old place out.old }
 {
-    let mut counts = [0u16; 3444];
-    let mut firsts = [0u16; 3444];
-    let mut nexts = [0u16; 3444];
-    let mut queue = [0u16; 3444];
-    let mut parents = [0u16; 3444];
-    let c = open_disk(
-        image,
-        blocks,
-        anodes,
-        &mut counts,
-        &mut firsts,
-        &mut nexts,
-        &mut queue,
-        &mut parents,
-    );
-    match c {
-        Checked::Accepted(t) => compare_second(
+    let mut tables = DiskTables::empty();
+    match tables.open(image, blocks, anodes) {
+        Ok(t) => compare_second(
             image,
-            &counts,
-            &firsts,
-            &nexts,
-            &queue,
+            &tables,
             t.dirs,
             other,
             other_blocks,
@@ -124,11 +82,17 @@ fn compare_into(
             place,
             out,
         ),
-        Checked::Refused(r) => Comparison {
-            answer: number(r),
-            refused: 1,
-            count: 0,
-        },
+        Err(refusal) => Err(RefusedImage { image: 1, refusal }),
+    }
+}
+
+// Which image was refused: 0 for neither.
+fn image_in(compared: Result<u32, RefusedImage>) -> u32
+    ensures { result ≡ image_in compared }
+{
+    match compared {
+        Ok(_) => 0,
+        Err(refused) => refused.image,
     }
 }
 
@@ -142,11 +106,11 @@ pub fn compare(
     other_anodes: &mut [u16],
     place: u64,
     fields: &mut [u32; 7],
-) -> u32
-    ensures { compared_of result fields.new [] blocks.new anodes.new other_blocks.new other_anodes.new ≡ compare_outcome image.now blocks.old anodes.old other.now other_blocks.old other_anodes.old place }
+) -> Result<(), Refusal>
+    ensures { compared_of (answer_of result) fields.new [] blocks.new anodes.new other_blocks.new other_anodes.new ≡ compare_outcome image.now blocks.old anodes.old other.now other_blocks.old other_anodes.old place }
 {
     let mut six = [0u32; 6];
-    let r = compare_into(
+    let compared = compare_into(
         image,
         blocks,
         anodes,
@@ -156,14 +120,24 @@ pub fn compare(
         place,
         &mut six,
     );
-    *fields = [r.refused, six[0], six[1], six[2], six[3], six[4], six[5]];
-    if r.answer != 0 {
-        return r.answer;
+    *fields = [
+        image_in(compared),
+        six[0],
+        six[1],
+        six[2],
+        six[3],
+        six[4],
+        six[5],
+    ];
+    match compared {
+        Ok(count) => {
+            if count == 0 {
+                return Err(Refusal::NotFound);
+            }
+            Ok(())
+        }
+        Err(refused) => Err(refused.refusal),
     }
-    if r.count == 0 {
-        return 22;
-    }
-    0
 }
 
 // Compares two images: as many differences from a place on as the buffer holds, six numbers for each. The fields are which image was refused, and how many were handed out.
@@ -177,10 +151,10 @@ pub fn differences(
     place: u64,
     out: &mut [u32],
     fields: &mut [u32; 2],
-) -> u32
-    ensures { compared_of result fields.new out.new blocks.new anodes.new other_blocks.new other_anodes.new ≡ differences_outcome image.now blocks.old anodes.old other.now other_blocks.old other_anodes.old place out.old }
+) -> Result<(), Refusal>
+    ensures { compared_of (answer_of result) fields.new out.new blocks.new anodes.new other_blocks.new other_anodes.new ≡ differences_outcome image.now blocks.old anodes.old other.now other_blocks.old other_anodes.old place out.old }
 {
-    let r = compare_into(
+    let compared = compare_into(
         image,
         blocks,
         anodes,
@@ -190,6 +164,14 @@ pub fn differences(
         place,
         out,
     );
-    *fields = [r.refused, r.count];
-    r.answer
+    match compared {
+        Ok(count) => {
+            *fields = [0, count];
+            Ok(())
+        }
+        Err(refused) => {
+            *fields = [refused.image, 0];
+            Err(refused.refusal)
+        }
+    }
 }

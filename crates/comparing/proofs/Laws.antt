@@ -1,29 +1,22 @@
 -- Laws of the pairs and differences along entries, a chain and the queue. Assumes nothing.
-use Prim.Native.Nat.{ℕ, ◌+◌, ◌*◌, ◌-◌, ◌<◌}
-use mathlib.Core.Path.{◌≡◌, refl, sym, ap, ◌∙◌}
-use mathlib.Core.Logic.{◌≢◌, ◌⊎◌, inl, inr}
+use Prim.Native.Nat.{ℕ, ◌+◌}
+use mathlib.Core.Path.{◌≡◌, refl, sym, ◌∙◌}
+use mathlib.Core.Logic.{◌⊎◌, inl, inr}
 use mathlib.Core.List.{List, [], ◌∷◌, ◌++◌}
 use mathlib.Core.Option.{Option, some, none-ne-some}
 use native.Mathlib.Numerals.{add-one}
 use lib.ListN.{get_or, set}
-use Rattle.disk.specs.Blocks.{block_of}
-use Rattle.directory.specs.declared.Entry.{Entry}
-use Rattle.directory.specs.declared.Walked.{Walked}
-use Rattle.directory.specs.declared.Walked.TheVariants.{Found}
-use Rattle.directory.specs.Entries.{name_in}
-use Rattle.rules.specs.Counting.{gather}
+use Rattle.counting.specs.Laws.{neither}
+use Rattle.rules.specs.Counting.{any_in, gather}
 use Rattle.rules.specs.Anodes.{limit, anodes_of}
 use Rattle.rules.specs.Chains.{chain_of}
-use Rattle.rules.specs.Walk.{Dir, dir_made, Entered, with_rest, entries_in}
+use Rattle.rules.specs.Walk.{Dir, dir_made, Entered, entries_in}
 use Rattle.rules.specs.Lookup.{entries_of, first_named, entry_named, of_entry}
-use Rattle.laws.specs.Chains.{gathered_none, gathered_end, gathered_step}
-use Rattle.laws.specs.Entries.{entered_at}
 use Rattle.laws.specs.Members.{member-first, member-later, member-left, member_right}
 use Rattle.anodes.specs.Loaded.{Loaded}
 use Rattle.change_laws.specs.Image.{ReachedDir}
 use Rattle.change_laws.specs.Reached.{reached_unbroken}
-use Rattle.lookup.specs.Answers.{entered, placed}
-use Rattle.lookup.proofs.Laws.{name_at_lem, entries_along, along_whole, along, unbroken_rest, unbroken_along}
+use Rattle.lookup.proofs.Laws.{entries_along, along_whole, along, unbroken_along}
 use Rattle.walk_steps.specs.Steps.{dirs_from}
 use Rattle.paths.specs.Reached.{found_in}
 use Rattle.differences.specs.Differences.{only_first, in_both}
@@ -42,14 +35,10 @@ module _ (img j : List ℕ) (p : ℕ) (e x : Entered) (same : x ≡ e) (o : Opti
   unfolding paired counterpart
   pair_step partners met partners' met' h = h ∙ rw (same, is) refl
 
-  -- the difference that is handing_with out
+  -- the difference that is handed out
   pub difference_step : (h r : Handing) → r ≡ hand_all h (of_entry o (in_both img j x) (only_first x.start ∷ [])) → r ≡ hand_all h (entry_difference img j p e)
   unfolding entry_difference counterpart
   difference_step h r a = a ∙ rw (same, is) refl
-
--- the entry that stands at a place, as it is looked up and as it is listed
-pub entry_here : (img : List ℕ) (y : ℕ) (block : List ℕ) (at : ℕ) (e : Entry) → block ≡ block_of img y → at < 512 → entered img (placed e (y * 512 + at)) ≡ entered_at e (name_in block at) (y * 512 + at)
-entry_here img y block at e is l = ap (λ (n : List ℕ). entered_at e n (y * 512 + at)) (name_at_lem img y block at is l)
 
 -- ---- what can be read
 
@@ -63,24 +52,25 @@ found_readable j p (inr r) name f is = readable_in (found_in r name f is)
 pub directory_readable : {img : List ℕ} {h : ℕ} → ReachedDir img h → ReadableEntries img (entries_of img (anodes_of img) h)
 directory_readable r = record { unbroken = reached_unbroken r; each = λ e m. readable_in (record { directory = r; member = m }) }
 
--- what is read at a place, with the entries behind it
-module _ (img : List ℕ) (w : Walked) (name : List ℕ) (start : ℕ) (rest : List Entered) (e : Entry) (is : w ≡ Found e) (r : ReadableEntries img (with_rest w name start rest)) where
-  pub readable_here : Readable img (entered_at e name start)
-  readable_here = r.each (entered_at e name start) (rw is (member-first (entered_at e name start) rest))
+-- the first of some entries, and those behind it
+module _ (img : List ℕ) (es : List Entered) (e : Entered) (rest : List Entered) (is : es ≡ e ∷ rest) (r : ReadableEntries img es) where
+  pub readable_here : Readable img e
+  readable_here = r.each e (rw is (member-first e rest))
 
   pub readable_rest : ReadableEntries img rest
-  readable_rest = record { unbroken = unbroken_rest w name start rest e is r.unbroken; each = λ x m. r.each x (rw is (member-later x (entered_at e name start) rest m)) }
+  unfolding any_in
+  readable_rest = record { unbroken = (neither e.broken (any_in (λ e. e.broken) rest) (rw is at r.unbroken)).1; each = λ x m. r.each x (rw is (member-later x e rest m)) }
 
--- along a chain
-module _ (img firsts nexts : List ℕ) (k m a : ℕ) (fuel : k ≡ m + 1) (some_anode : a ≡ 0 → ⊥) (r : ReadableEntries img (entries_along img firsts nexts k a)) where
+-- the entries of the first of some anodes, and those behind it
+module _ (img firsts anodes : List ℕ) (a : ℕ) (rest : List ℕ) (is : anodes ≡ a ∷ rest) (r : ReadableEntries img (entries_along img firsts anodes)) where
   pub readable_block : ReadableEntries img (entries_in img (get_or firsts a 0))
-  readable_block = record { unbroken = (unbroken_along img firsts nexts k m a fuel some_anode r.unbroken).0; each = λ x i. r.each x (rw (along img firsts nexts k m a fuel some_anode) (member-left x (entries_in img (get_or firsts a 0)) (entries_along img firsts nexts m (get_or nexts a 0)) i)) }
+  readable_block = record { unbroken = (unbroken_along img firsts anodes a rest is r.unbroken).0; each = λ x i. r.each x (rw (along img firsts anodes a rest is) (member-left x (entries_in img (get_or firsts a 0)) (entries_along img firsts rest) i)) }
 
-  pub readable_behind : ReadableEntries img (entries_along img firsts nexts m (get_or nexts a 0))
-  readable_behind = record { unbroken = (unbroken_along img firsts nexts k m a fuel some_anode r.unbroken).1; each = λ x i. r.each x (rw (along img firsts nexts k m a fuel some_anode) (member_right x (entries_in img (get_or firsts a 0)) (entries_along img firsts nexts m (get_or nexts a 0)) i)) }
+  pub readable_behind : ReadableEntries img (entries_along img firsts rest)
+  readable_behind = record { unbroken = (unbroken_along img firsts anodes a rest is r.unbroken).1; each = λ x i. r.each x (rw (along img firsts anodes a rest is) (member_right x (entries_in img (get_or firsts a 0)) (entries_along img firsts rest) i)) }
 
 -- the entries of a directory, along its chain
-pub along_loaded : (img counts firsts nexts : List ℕ) (h : ℕ) → Loaded img counts firsts nexts → entries_of img (anodes_of img) h ≡ entries_along img firsts nexts limit h
+pub along_loaded : (img counts firsts nexts : List ℕ) (h : ℕ) → Loaded img counts firsts nexts → entries_of img (anodes_of img) h ≡ entries_along img firsts (chain_of (λ x. get_or nexts x 0) limit h)
 along_loaded img counts firsts nexts h l = rw (← l.is_loaded) (along_whole img firsts nexts counts h)
 
 -- ---- pairs along lists of entries
@@ -90,28 +80,18 @@ module _ (j : List ℕ) (p : ℕ) (t : Pairs) where
   unfolding paired_all
   pairs_none es e = rw e
 
-  pub pairs_found : (w : Walked) (name : List ℕ) (start : ℕ) (rest : List Entered) (e : Entry) (r : Pairs) → w ≡ Found e → r ≡ paired j p t (entered_at e name start) → paired_all j p r rest ≡ paired_all j p t (with_rest w name start rest)
+  pub pairs_first : (es : List Entered) (e : Entered) (rest : List Entered) (r : Pairs) → es ≡ e ∷ rest → r ≡ paired j p t e → paired_all j p r rest ≡ paired_all j p t es
   unfolding paired_all
-  pairs_found w name start rest e r is a = rw (is, a) refl
+  pairs_first es e rest r is a = rw (is, a) refl
 
 pub pairs_join : (j : List ℕ) (p : ℕ) (t : Pairs) (xs ys : List Entered) → paired_all j p t (xs ++ ys) ≡ paired_all j p (paired_all j p t xs) ys
 unfolding paired_all
 pairs_join j p t [] ys = refl
 pairs_join j p t (x ∷ xs) ys = pairs_join j p (paired j p t x) xs ys
 
-module _ (j : List ℕ) (p : ℕ) (t : Pairs) (img firsts nexts : List ℕ) where
-  pub pairs_chain-end : (k a : ℕ) → a ≡ 0 → paired_all j p t (entries_along img firsts nexts k a) ≡ t
-  unfolding entries_along
-  pairs_chain-end k a e = pairs_none j p t _ (gathered_end _ _ k a e)
-
-  pub pairs_chain-none : (k a : ℕ) → k ≡ 0 → paired_all j p t (entries_along img firsts nexts k a) ≡ t
-  unfolding entries_along
-  pairs_chain-none k a e = pairs_none j p t _ (gathered_none _ _ k a e)
-
-  pub pairs_chain_step : (k m a : ℕ) → k ≡ m + 1 → a ≢ 0 → (r : Pairs) → r ≡ paired_all j p t (entries_in img (get_or firsts a 0)) → paired_all j p r (entries_along img firsts nexts m (get_or nexts a 0)) ≡ paired_all j p t (entries_along img firsts nexts k a)
-  unfolding entries_along
-  pairs_chain_step k m a fuel s r added =
-      rw (gathered_step (λ x. entries_in img (get_or firsts x 0)) (λ x. get_or nexts x 0) k m a fuel s, added) (sym (pairs_join j p t _ _))
+pub pairs_chain_step : (j : List ℕ) (p : ℕ) (t : Pairs) (img firsts anodes : List ℕ) (a : ℕ) (rest : List ℕ) → anodes ≡ a ∷ rest → (r : Pairs) → r ≡ paired_all j p t (entries_in img (get_or firsts a 0)) →
+    paired_all j p r (entries_along img firsts rest) ≡ paired_all j p t (entries_along img firsts anodes)
+pairs_chain_step j p t img firsts anodes a rest is r added = rw (along img firsts anodes a rest is, added) (sym (pairs_join j p t _ _))
 
 -- ---- along the queue
 

@@ -1,7 +1,7 @@
 -- The differences of both parts of the walk are all of them. Assumes nothing.
 use Prim.Native.Nat.{ℕ}
 use mathlib.Core.Path.{◌≡◌, refl, sym, ap, ◌∙◌}
-use mathlib.Core.List.{List, [], ◌++◌}
+use mathlib.Core.List.{List, []}
 use Rattle.rules.specs.Counting.{gather}
 use Rattle.rules.specs.Anodes.{Anodes, anodes_of}
 use Rattle.rules.specs.Walk.{Dir, reached_dirs}

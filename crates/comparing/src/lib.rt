@@ -1,4 +1,4 @@
-// The differences of two accepted images, handing_with out one after the other: the first's directories with their partners in the second, then what only the second has.
+// The differences of two accepted images, handed out one after the other: the first's directories with their partners in the second, then what only the second has.
 #![tactic(auto)]
 
 ghost use Rattle.std.specs.Prelude.{List, [], ◌≡◌};
@@ -16,13 +16,13 @@ ghost use Rattle.handing.specs.Differs.{handing_with};
 ghost use Rattle.comparing.specs.Walked.{ReadableEntries, OpenWalk};
 
 use counterparts::{Span, find_counterpart, open_directory};
-use directory::Walked;
 use disk::{AnodeNo, BlockNo, block_part};
 use entry_pairs::compare_entry;
 use handing::Handed;
+use links::Links;
 use lookup::entry_in_image;
 use names::name_at;
-use reader::read_entry;
+use reader::Reader;
 use tables::entry;
 use unmet_entries::hand_unmet;
 
@@ -51,39 +51,28 @@ fn compare_block(
     ensures pairs { pairs_of partners.new met.new ≡ paired_all other.now p.0 (pairs_of partners.old met.old) (entries_in image.now b.0) }
     ensures differences { handing_with out.new result ≡ hand_all (handing_with out.old c) (gather (entry_difference image.now other.now p.0) (entries_in image.now b.0)) }
 {
-    let block = block_part(image, b);
     let mut so_far = c;
-    let mut at: usize = 16;
-    let mut fuel: usize = 28;
-    while fuel > 0 {
-        let read = read_entry(block, at);
-        let walked = read.walked;
-        let e = match walked {
-            Walked::Found(e) => e,
-            Walked::End => return so_far,
-            Walked::Fault(_) => return so_far,
+    for item in Reader::of(block_part(image, b)) {
+        let Ok(read) = item else {
+            return so_far;
         };
-        let found = find_counterpart(other, index, span, name_at(image, b.0, at as u16));
-        let here = entry_in_image(b, at, e);
-        let after = compare_entry(
+        let name = name_at(image, b.0, read.at as u16);
+        so_far = compare_entry(
             image,
             counts,
             firsts,
             nexts,
-            here,
+            entry_in_image(b, read.at, read.entry),
             other,
             other_counts,
             other_firsts,
             other_nexts,
-            found,
+            find_counterpart(other, index, span, name),
             partners,
             met,
             out,
             so_far,
         );
-        so_far = after;
-        at = read.after;
-        fuel -= 1;
     }
     so_far
 }
@@ -114,14 +103,9 @@ fn compare_directory(
     ensures differences { handing_with out.new result ≡ hand_all (handing_with out.old c) (gather (entry_difference image.now other.now p.0) (entries_of image.now (anodes_of image.now) head.0)) }
 {
     let mut so_far = c;
-    let mut at = head.0 as usize;
-    let mut fuel: usize = 3444;
-    while fuel > 0 {
-        if at == 0 {
-            return so_far;
-        }
-        let b = BlockNo(entry(firsts, at));
-        let after = compare_block(
+    for a in Links::along(nexts, head) {
+        let b = BlockNo(entry(firsts, a.0 as usize));
+        so_far = compare_block(
             image,
             counts,
             firsts,
@@ -139,9 +123,6 @@ fn compare_directory(
             out,
             so_far,
         );
-        so_far = after;
-        at = entry(nexts, at) as usize;
-        fuel -= 1;
     }
     so_far
 }
@@ -172,12 +153,11 @@ fn compare_walk(
 {
     let mut so_far = c;
     let mut indexed: usize = 0;
-    let mut i: u16 = 0;
-    while i < dirs {
+    for i in 0..dirs {
         let head = AnodeNo(entry(queue, i as usize));
         let p = AnodeNo(entry(partners, head.0 as usize));
         let span = open_directory(other, other_firsts, other_nexts, p, index, indexed);
-        let after = compare_directory(
+        so_far = compare_directory(
             image,
             counts,
             firsts,
@@ -195,9 +175,7 @@ fn compare_walk(
             out,
             so_far,
         );
-        so_far = after;
         indexed = span.upto;
-        i += 1;
     }
     so_far
 }

@@ -1,11 +1,15 @@
 -- Laws of the copy out of a chain's blocks, from a place on. Assumes nothing.
-use Prim.Native.Nat.{ℕ, suc, ◌+◌, ◌-◌, ◌<◌, ◌≤◌}
+use Prim.Native.Nat.{ℕ, ◌+◌, ◌-◌, ◌<◌, ◌≤◌, min}
 use mathlib.Core.Path.{◌≡◌, refl, sym, ap, ◌∙◌}
-use mathlib.Core.List.{List, [], ◌∷◌, ◌++◌, append_assoc, append-nil}
-use native.Mathlib.Numerals.{add-one}
+use mathlib.Core.List.{List, [], ◌++◌, append_assoc, append-nil}
 use native.Mathlib.Omega.{arith}
-use lib.ListN.{length, get_or, set, take, drop, length-set, length-take, length-drop, drop_of_length-le}
-use lib.Seq.{drop-cons, take-append-le, drop-append-le, drop-append-add, take_all, take-suc-set, length-take-le}
+use lib.ListN.{length, take, drop, length-take, length-drop, drop_of_length-le}
+use lib.Seq.{take-append-le, drop-append-le, drop-append-add, take_all, length-take-le}
+use Rattle.std.proofs.lemmas.Slice.{take-put_mid}
+use borrow.Rule.Slice.PartMut.{put_mid}
+use Rattle.std.proofs.Common.{length-append, inl, inr}
+use lib.Seq.{take-append-add}
+use Rattle.endian.proofs.Laws.{less?, length-stored, put_mid-stored}
 use Rattle.disk.specs.Blocks.{block_of}
 use Rattle.rules.specs.Counting.{gather}
 use Rattle.contents.specs.Copied.{filled}
@@ -34,16 +38,32 @@ filled-full out source done h = rw (take_all done out h, take-append-le (length 
 pub filled_any : (out one other : List ℕ) (done : ℕ) → length out ≤ done → filled out done one ≡ filled out done other
 filled_any out one other done h = filled-full out one done h ∙ sym (filled-full out other done h)
 
--- one byte more, of a source from j on with others behind
-pub filled_byte : (out source rest : List ℕ) (done j : ℕ) → done < length out → j < length source
-    → filled (set out done (get_or source j 0)) (done + 1) (drop (j + 1) source ++ rest) ≡ filled out done (drop j source ++ rest)
+-- as many bytes of a source as there is room for, with others behind
+pub filled_part : (out source rest : List ℕ) (done n : ℕ) → done ≤ length out → n ≡ min (length source) (length out - done)
+    → filled (put_mid done (done + n - done) out (take n source)) (done + n) rest ≡ filled out done (source ++ rest)
 unfolding filled
-filled_byte out source rest done j h k =
-    rw (length-set out done (get_or source j 0), add-one done, take-suc-set out done (get_or source j 0) h, drop-cons source j 0 k, add-one j)
-    (ap (λ (l : List ℕ). take (length out) l) (append_assoc (take done out) (get_or source j 0 ∷ []) (drop (suc j) source ++ rest)))
-
-pub filled-done : (out source rest : List ℕ) (done j : ℕ) → length source ≤ j → filled out done rest ≡ filled out done (drop j source ++ rest)
-filled-done out source rest done j h = rw (drop_of_length-le source {i = j} h)
+filled_part out source rest done n h e =
+    let part = length-take n source in
+    let long : length (take n source) ≡ n = omega arith in
+    let room : done + n - done ≡ n = omega arith in
+    let front : take (done + n) (put_mid done n out (take n source)) ≡ take done out ++ take n source = take-put_mid done n out (take n source) (done + n) (omega arith) h in
+    let whole : length (put_mid done n out (take n source)) ≡ length out =
+    rw (put_mid-stored out done (take n source) n (sym long) (omega arith)) (length-stored out done (take n source)) in
+    rw (room, whole, front)
+    (elim (less? n (length source)) [
+      | inl more ↦ full (omega arith)
+      | inr all ↦ rw (take_all n source all) (ap (take (length out)) (append_assoc (take done out) source rest))
+    ])
+  where
+    full : done + n ≡ length out → take (length out) (take done out ++ take n source ++ rest) ≡ take (length out) (take done out ++ (source ++ rest))
+    full end =
+        let front = take done out ++ take n source in
+        let first : length (take done out) ≡ done = length-take-le done out h in
+        let long : length front ≡ length out = omega (arith, length-append (take done out) (take n source), length-take n source, e) in
+        let split : length out ≡ length (take done out) + n = omega arith in
+        take-append-le (length out) front rest (omega arith) ∙ take_all (length out) front (omega arith)
+        ∙ sym (ap (λ (k : ℕ). take k (take done out ++ (source ++ rest))) split ∙ take-append-add (take done out) (source ++ rest) n
+        ∙ ap (λ (l : List ℕ). take done out ++ l) (take-append-le n source rest (omega (arith, e))))
 
 -- no block is left, and the buffer comes to t, which is as long: so it is t
 pub filled-end : (img out t : List ℕ) (done skip : ℕ) (ys : List ℕ) → ys ≡ [] → filled out done (drop skip (gather (block_of img) ys)) ≡ t → length t ≡ length out → out ≡ t

@@ -18,8 +18,7 @@ use Rattle.rules.specs.Chains.{run, blocks_of}
 use Rattle.rules.specs.Walk.{Entered}
 use Rattle.rules.specs.Lookup.{bytes_of}
 use Rattle.rules.specs.Changes.{spread, written}
-use Rattle.laws.specs.Chains.{gathered_step, run_step, Inside}
-use Rattle.laws.specs.ChainBlocks.{extent, blocks_from}
+use Rattle.laws.specs.Chains.{run_step, Inside}
 use Rattle.laws.specs.Sums.{one_at-same}
 use Rattle.laws.specs.Bags.{occurrences-cons, occurrences-append, occurrences-here}
 use Rattle.contents.specs.Written.{written_over, InsideOnce}
@@ -91,7 +90,7 @@ over_written img s h e offset bytes is i = rw is (over_spread img img (blocks_of
 
 -- ---- blocks that the image has whole
 
-inside_append : (img l n : List ℕ) → Inside img (l ++ n) → Inside img l × Inside img n
+pub inside_append : (img l n : List ℕ) → Inside img (l ++ n) → Inside img l × Inside img n
 inside_append img l n i = (λ y p. i y (omega (arith, p, occurrences-append y l n)), λ y p. i y (omega (arith, p, occurrences-append y l n)))
 
 -- the first block of a run, and those behind it
@@ -101,9 +100,3 @@ module _ (img : List ℕ) (b n m : ℕ) (more : n ≡ m + 1) (i : Inside img (ru
 
   pub rest_inside : Inside img (run (b + 1) m)
   rest_inside = (inside_append img (b ∷ []) (run (b + 1) m) (rw (run_step b n m more) at i)).1
-
--- an anode's own blocks, and those of the anodes behind it
-pub along_inside : (img : List ℕ) (s : Anodes) (k m a : ℕ) → k ≡ m + 1 → (a ≡ 0 → ⊥) → Inside img (blocks_from s k a)
-    → Inside img (extent s a) × Inside img (blocks_from s m (s.next a))
-along_inside img s k m a fuel some i =
-    inside_append img (extent s a) (blocks_from s m (s.next a)) (rw (gathered_step (extent s) s.next k m a fuel some) at i)

@@ -15,6 +15,7 @@ ghost use Rattle.contents.specs.Written.{WrittenPast, InsideOnce};
 
 use disk::{AnodeNo, BlockNo};
 use endian::{part, store};
+use links::Links;
 use tables::entry;
 
 // How many bytes are still to be skipped, and how many are done.
@@ -28,17 +29,12 @@ struct Cursor {
 fn copy_bytes(source: &[u8], out: &mut [u8], done: usize) -> usize
     ensures { (rest : List ℕ) → filled out.new result rest ≡ filled out.old done (source.now ++ rest) }
 {
-    let mut at = done;
-    let mut j = 0;
-    while j < source.len() {
-        if out.len() <= at {
-            return at;
-        }
-        out[at] = source[j];
-        at += 1;
-        j += 1;
+    if out.len() <= done {
+        return done;
     }
-    at
+    let n = source.len().min(out.len() - done);
+    out[done..done + n].copy_from_slice(&source[..n]);
+    done + n
 }
 
 // Copies what block `i`, from 0, of those from `first` upward has behind the bytes to be skipped.
@@ -63,14 +59,11 @@ fn copy_run(image: &[u8], first: BlockNo, count: u16, out: &mut [u8], c: Cursor)
     ensures { Copied c out.old (gather (block_of image.now) (run first.0 count)) result out.new }
 {
     let mut cursor = c;
-    let mut i: u16 = 0;
-    while i < count {
+    for i in 0..count {
         if out.len() <= cursor.done {
             return cursor;
         }
-        let after = copy_block(image, first, i, out, cursor);
-        cursor = after;
-        i += 1;
+        cursor = copy_block(image, first, i, out, cursor);
     }
     cursor
 }
@@ -92,20 +85,13 @@ pub fn copy_out(
         skip: offset,
         done: 0,
     };
-    let mut at = head.0 as usize;
-    let mut fuel: usize = 3444;
-    while fuel > 0 {
-        if at == 0 {
-            return;
-        }
+    for a in Links::along(nexts, head) {
         if out.len() <= cursor.done {
             return;
         }
-        let first = BlockNo(entry(firsts, at));
-        let after = copy_run(image, first, entry(counts, at), out, cursor);
-        cursor = after;
-        at = entry(nexts, at) as usize;
-        fuel -= 1;
+        let first = BlockNo(entry(firsts, a.0 as usize));
+        let count = entry(counts, a.0 as usize);
+        cursor = copy_run(image, first, count, out, cursor);
     }
 }
 
@@ -137,14 +123,11 @@ fn write_run(image: &mut [u8], first: BlockNo, count: u16, bytes: &[u8], c: Curs
     ensures { WrittenPast c bytes.now image.old (run first.0 count) result image.new }
 {
     let mut cursor = c;
-    let mut i: u16 = 0;
-    while i < count {
+    for i in 0..count {
         if bytes.len() <= cursor.done {
             return cursor;
         }
-        let after = write_block(image, first, i, bytes, cursor);
-        cursor = after;
-        i += 1;
+        cursor = write_block(image, first, i, bytes, cursor);
     }
     cursor
 }
@@ -166,19 +149,12 @@ pub fn write_along(
         skip: offset,
         done: 0,
     };
-    let mut at = head.0 as usize;
-    let mut fuel: usize = 3444;
-    while fuel > 0 {
-        if at == 0 {
-            return;
-        }
+    for a in Links::along(nexts, head) {
         if bytes.len() <= cursor.done {
             return;
         }
-        let first = BlockNo(entry(firsts, at));
-        let after = write_run(image, first, entry(counts, at), bytes, cursor);
-        cursor = after;
-        at = entry(nexts, at) as usize;
-        fuel -= 1;
+        let first = BlockNo(entry(firsts, a.0 as usize));
+        let count = entry(counts, a.0 as usize);
+        cursor = write_run(image, first, count, bytes, cursor);
     }
 }

@@ -1,4 +1,5 @@
 -- How many entries a directory has: at most 28 for each of its anodes, and no more than there are anodes. Assumes nothing.
+use Rattle.std.specs.Prelude.{Some, None, Ok, Err}
 use Prim.Native.Nat.{ℕ, zero, suc, ◌+◌, ◌*◌, ◌≤◌}
 use mathlib.Core.Path.{◌≡◌, sym, ap, ◌∙◌}
 use mathlib.Core.Logic.{◌⊎◌, inl, inr}
@@ -7,8 +8,7 @@ use native.Mathlib.Omega.{arith}
 use lib.ListN.{length, length-append, length-map, get_or}
 use Rattle.endian.proofs.Laws.{less?}
 use Rattle.disk.specs.Blocks.{block_of}
-use Rattle.directory.specs.declared.Walked.{Walked}
-use Rattle.directory.specs.declared.Walked.TheVariants.{Found, End, Fault}
+use Rattle.directory.specs.Entries.{Walked}
 use Rattle.directory.specs.Entries.{name_in, walked_at}
 use Rattle.rules.specs.Counting.{one_at, sum_list, occurrences, any_in, gather}
 use Rattle.rules.specs.Anodes.{Anodes, limit, anodes_of}
@@ -31,9 +31,9 @@ use Rattle.counterparts.specs.Spans.{LoadedFor, HeadsDirectory}
 -- ---- by its anodes
 
 rest_few : (w : Walked) (name : List ℕ) (start : ℕ) (rest : List Entered) (k : ℕ) → length rest ≤ k → length (with_rest w name start rest) ≤ suc k
-rest_few (Found e) name start rest k h = omega arith
-rest_few End name start rest k h = omega arith
-rest_few (Fault r) name start rest k h = omega arith
+rest_few (Ok (Some e)) name start rest k h = omega arith
+rest_few (Ok None) name start rest k h = omega arith
+rest_few (Err r) name start rest k h = omega arith
 
 entries_few : (k : ℕ) (block : List ℕ) (y at : ℕ) → length (entries_from k block y at) ≤ k
 unfolding entries_from

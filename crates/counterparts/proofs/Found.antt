@@ -1,26 +1,20 @@
 -- The entry of a name in a span of the index. Assumes nothing.
+use Rattle.std.specs.Prelude.{Some, Ok}
 use Prim.Native.Nat.{ℕ, zero, suc, ◌+◌, ◌-◌, ◌*◌, ◌/◌, ◌%◌, ◌≤◌, ◌<◌}
 use mathlib.Core.Path.{◌≡◌, refl, sym, ap, ◌∙◌}
 use mathlib.Core.Logic.{◌≢◌}
-use mathlib.Core.Bool.{Bool, true, false, cond, true≢false}
+use mathlib.Core.Bool.{Bool, true, false, true≢false}
 use mathlib.Core.List.{List, [], ◌∷◌}
 use mathlib.Core.Option.{Option, none, some}
 use native.Mathlib.Nat.{not-suc-le-zero}
 use native.Mathlib.Omega.{arith}
-use lib.Dec.{eqb, leb}
+use lib.Dec.{leb}
 use lib.ListN.{length, length-append, get_or}
 use lib.Seq.{get_or_at}
-use borrow.Author.Tests.{eqb-true, le-leb, leb-true}
-use Rattle.endian.specs.Bytes.{be16, be32}
-use Rattle.disk.specs.declared.Refusal.TheVariants.{DirectoryBlock}
+use borrow.Author.Tests.{le-leb, leb-true}
 use Rattle.disk.specs.Blocks.{block_of}
 use Rattle.directory.specs.declared.Entry.{Entry}
-use Rattle.directory.specs.declared.Kind.{Kind}
-use Rattle.directory.specs.declared.Kind.TheVariants.{File, Directory}
-use Rattle.directory.specs.declared.KindRead.TheVariants.{Is, Neither}
-use Rattle.directory.specs.declared.Walked.{Walked}
-use Rattle.directory.specs.declared.Walked.TheVariants.{Found, End, Fault}
-use Rattle.directory.specs.Entries.{is_dir, kind_read, entry_shaped, entry_in, walked_kind, walked_at}
+use Rattle.directory.specs.Entries.{walked_at}
 use Rattle.rules.specs.Counting.{same_bytes}
 use Rattle.rules.specs.Folding.{folded}
 use Rattle.rules.specs.Anodes.{anodes_of}
@@ -33,49 +27,12 @@ use Rattle.laws.specs.Apart.{same_name, name_same, one_same, one_same-same}
 use Rattle.laws.specs.NamesApart.{accepted-names_apart, none-counted}
 use Rattle.names.specs.Index.{folded_in, name_of, last_below, is_same, start_of, InBlock}
 use Rattle.names.proofs.Laws.{last-le, any_last, last_passes}
-use Rattle.lookup.specs.declared.EntryAt.{EntryAt}
-use Rattle.lookup.specs.Answers.{entered}
+use Rattle.lookup.specs.Answers.{placed, entered}
 use Rattle.change_laws.specs.Reached.{EntryIn, entry-facts, entry_name}
 use Rattle.counterparts.specs.declared.Span.{Span}
 use Rattle.counterparts.specs.Spans.{HeadsDirectory, starts_of, SpanOf, StandsAt}
 use Rattle.counterparts.proofs.Laws.{starts_append, length_starts, starts_at}
 use Rattle.counterparts.proofs.Fits.{headed-entry}
-
--- ---- the fields of an entry
-
--- an entry of a block at a place of the image, by the fields that stand there
-abbrev pub fields_read : Kind → List ℕ → ℕ → ℕ → EntryAt
-fields_read k b at start = record { kind = k; anode = record { 0 = be16 b (at + 2) }; size = be32 b (at + 4); start = start }
-
--- an entry has the kind of its type byte, and the anode and size that stand behind it
-abbrev HasFields : List ℕ → ℕ → Entry → Type 0
-HasFields b at x = (is_dir x.kind ≡ eqb (get_or b (at + 1) 0) 2) × (x.anode.0 ≡ be16 b (at + 2)) × (x.size ≡ be32 b (at + 4))
-
--- whether an entry is found
-abbrev is_entry : Walked → Bool
-is_entry (Found x) = true
-is_entry End = false
-is_entry (Fault r) = false
-
--- so where its type byte is read
-kind_fields : (b : List ℕ) (at : ℕ) (x : Entry) → walked_kind (kind_read (get_or b (at + 1) 0)) (entry_in b at) ≡ Found x → HasFields b at x
-unfolding kind_read entry_in
-kind_fields b at x h = go (eqb (get_or b (at + 1) 0) 253) (eqb (get_or b (at + 1) 0) 2) refl refl h
-  where
-    go : (p q : Bool) → eqb (get_or b (at + 1) 0) 253 ≡ p → eqb (get_or b (at + 1) 0) 2 ≡ q → walked_kind (cond p (Is File) (cond q (Is Directory) Neither)) (entry_in b at) ≡ Found x → HasFields b at x
-    go true q e d f = let i : entry_in b at File ≡ x = cc in rw (← i) (sym (ap (λ (z : ℕ). eqb z 2) (eqb-true (get_or b (at + 1) 0) 253 e)), refl, refl)
-    go false true e d f = let i : entry_in b at Directory ≡ x = cc in rw (← i) (sym d, refl, refl)
-    go false false e d f = absurd (true≢false (sym (ap is_entry f)))
-
--- and so where it is found
-fields_found : (b : List ℕ) (at : ℕ) (x : Entry) → walked_at b at ≡ Found x → HasFields b at x
-unfolding walked_at
-fields_found b at x h = go (eqb (get_or b at 0) 0) (entry_shaped b at) h
-  where
-    go : (p q : Bool) → cond p End (cond q (walked_kind (kind_read (get_or b (at + 1) 0)) (entry_in b at)) (Fault DirectoryBlock)) ≡ Found x → HasFields b at x
-    go true q f = absurd (true≢false (sym (ap is_entry f)))
-    go false true f = kind_fields b at x f
-    go false false f = absurd (true≢false (sym (ap is_entry f)))
 
 -- ---- what stands where the index has an entry
 
@@ -89,17 +46,18 @@ module _ (img index : List ℕ) (j : ℕ) (e : Entered) (w : InBlock index j) (s
   its_place = omega (arith, w, s)
 
   module _ (t : StandsAt img e) where
-    stands_there : walked_at (block_of img (get_or index (10984 + j) 0)) (get_or index (14428 + j) 0) ≡ Found t.entry
+    pub stands_there : walked_at (block_of img (get_or index (10984 + j) 0)) (get_or index (14428 + j) 0) ≡ Ok (Some t.entry)
     stands_there = rw (its_block, its_place) t.walked
 
-    -- the entry whose fields are read there is e
-    pub stands_read : (k : Kind) → is_dir k ≡ eqb (get_or (block_of img (get_or index (10984 + j) 0)) (get_or index (14428 + j) 0 + 1) 0) 2
-        → entered img (fields_read k (block_of img (get_or index (10984 + j) 0)) (get_or index (14428 + j) 0) (get_or index (10984 + j) 0 * 512 + get_or index (14428 + j) 0)) ≡ e
+    -- the entry that is read there is e
+    pub stands_read : (x : Entry) → walked_at (block_of img (get_or index (10984 + j) 0)) (get_or index (14428 + j) 0) ≡ Ok (Some x)
+        → entered img (placed x (get_or index (10984 + j) 0 * 512 + get_or index (14428 + j) 0)) ≡ e
     unfolding start_of name_at
-    stands_read k said =
-        let f = fields_found _ _ _ stands_there in
+    stands_read x there =
+        let both = sym there ∙ stands_there in
+        let same : x ≡ t.entry = cc in
         let z : e.start / 512 * 512 + e.start % 512 ≡ e.start = omega arith in
-        rw (said, ← f.0, ← f.1, ← f.2, s) (sym (rw z at t.is))
+        rw (same, s) (sym (rw z at t.is))
 
   -- its folded name
   name_there : {h : ℕ} → EntryIn img h e → name_of img index j ≡ folded e.name

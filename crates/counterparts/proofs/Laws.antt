@@ -1,22 +1,16 @@
 -- Entries that are put into the index, block by block and one by one. Assumes nothing.
-use Prim.Native.Nat.{ℕ, zero, suc, ◌+◌, ◌*◌, ◌≤◌, ◌<◌}
+use Prim.Native.Nat.{ℕ, zero, suc, ◌+◌, ◌≤◌, ◌<◌}
 use mathlib.Core.Path.{◌≡◌, refl, sym, ap, ◌∙◌}
-use mathlib.Core.Logic.{⊎_elim, ◌≢◌, inl, inr}
+use mathlib.Core.Logic.{⊎_elim, ◌≢◌}
 use mathlib.Core.List.{List, [], ◌∷◌, ◌++◌, append-nil, append_assoc}
 use native.Mathlib.Nat.{not-suc-le-zero, add-zero}
-use native.Mathlib.Numerals.{add-one}
 use native.Mathlib.Omega.{arith}
 use lib.ListN.{length, length-append, length-map, get_or, get_or-append}
 use lib.Seq.{get_or_at}
 use Rattle.endian.proofs.Laws.{same?}
-use Rattle.directory.specs.Entries.{name_in}
-use Rattle.directory.proofs.Laws.{found_at, end-at}
-use Rattle.rules.specs.Walk.{Entered, entries_from, entries_in}
-use Rattle.laws.specs.Chains.{gathered_none, gathered_end}
-use Rattle.laws.specs.Entries.{entered_at, entries_more, entries_end_lem, Unbroken}
-use Rattle.lookup.proofs.Laws.{entries_along}
+use Rattle.rules.specs.Walk.{Entered}
+use Rattle.laws.specs.Entries.{Unbroken}
 use Rattle.names.specs.Index.{Indexed, start_of, InBlock}
-use Rattle.change_laws.specs.FoundEntries.{EndOrEntry, unbroken_cases}
 use Rattle.counterparts.specs.Spans.{starts_of, starts_in, Added, SpanOf}
 
 -- ---- starts
@@ -128,54 +122,6 @@ module _ {img old new : List ℕ} {i n : ℕ} {rest whole : List Entered} (f : F
   pub filling_one : {newer : List ℕ} (e : Entered) (behind : List Entered) → rest ≡ e ∷ behind → Unbroken behind → Indexed img newer (n + 1) → start_of newer n ≡ e.start
       → ((k : ℕ) → k < n → start_of newer k ≡ start_of new k) → ((k : ℕ) → k ≤ n → (k < n → InBlock new k) → InBlock newer k) → Filling img old newer i (n + 1) behind whole
   filling_one {newer} e behind is u t start kept within = filling_next (e ∷ []) behind is u (added_one img new newer n e t start kept within)
-
--- ---- the entries of a block from a place on, by the length byte there
-
--- an entry stands there, and none behind it is broken
-pub record EntryHere (b : List ℕ) (y k m at : ℕ) : Type 0 where
-  pub entry : Entered
-  pub start : entry.start ≡ y * 512 + at
-  pub more : entries_from k b y at ≡ entry ∷ entries_from m b y (at + get_or b at 0)
-  pub unbroken : Unbroken (entries_from m b y (at + get_or b at 0))
-  pub within : at < 512
-  pub room : at + get_or b at 0 ≤ 510
-
-module _ (b : List ℕ) (y k m at : ℕ) (fuel : k ≡ m + 1) (u : Unbroken (entries_from k b y at)) where
-  cases_here : EndOrEntry b y m at
-  cases_here = unbroken_cases b y m at (rw (fuel, add-one m) at u)
-
-  -- 0 ends them
-  pub end-here : get_or b at 0 ≡ 0 → entries_from k b y at ≡ []
-  end-here z = elim cases_here [
-    | inl e ↦ entries_end_lem b y k at e
-    | inr e ↦ absurd (omega (arith, z, (found_at b at e.0 e.1).long))
-  ]
-
-  -- any other is an entry's
-  pub entry_here : get_or b at 0 ≢ 0 → EntryHere b y k m at
-  entry_here some = elim cases_here [
-    | inl e ↦ absurd (some (end-at b at e))
-    | inr e ↦ (let g = found_at b at e.0 e.1 in
-        record {
-          entry = entered_at e.0 (name_in b at) (y * 512 + at);
-          start = refl;
-          more = rw (fuel, add-one m) (entries_more b y m at e.0 e.1);
-          unbroken = e.2;
-          within = omega (arith, g.room);
-          room = g.room;
-        })
-  ]
-
--- ---- the entries along a chain, where none is left
-
-module _ (img firsts nexts : List ℕ) (k a : ℕ) where
-  pub along_none : k ≡ 0 → entries_along img firsts nexts k a ≡ []
-  unfolding entries_along
-  along_none e = gathered_none (λ x. entries_in img (get_or firsts x 0)) (λ x. get_or nexts x 0) k a e
-
-  pub along_end : a ≡ 0 → entries_along img firsts nexts k a ≡ []
-  unfolding entries_along
-  along_end e = gathered_end (λ x. entries_in img (get_or firsts x 0)) (λ x. get_or nexts x 0) k a e
 
 -- ---- a span
 

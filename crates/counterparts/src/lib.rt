@@ -3,7 +3,6 @@
 
 ghost use Rattle.std.specs.Prelude.{List, [], ◌⊎◌, ◌≡◌, ℕ, ◌+◌, ◌*◌, ◌<◌, ◌≤◌, eqb, length, get_or};
 ghost use Rattle.std.proofs.Math.Option.{some};
-ghost use Rattle.directory.specs.Entries.{is_dir};
 ghost use Rattle.rules.specs.Anodes.{anodes_of};
 ghost use Rattle.rules.specs.Chains.{chain_of};
 ghost use Rattle.rules.specs.Walk.{Entered, entries_in};
@@ -14,11 +13,12 @@ ghost use Rattle.anodes.specs.Loaded.{anodes_from};
 ghost use Rattle.lookup.specs.Answers.{entry_of};
 ghost use Rattle.counterparts.specs.Spans.{LoadedFor, HeadsDirectory, Added, SpanOf, SpanFor, StandsAt};
 
-use directory::Kind;
+use directory::entry_at;
 use disk::{AnodeNo, BlockNo, block_part};
-use endian::{read8, read16, read32};
-use lookup::{EntryAt, Lookup};
+use links::Links;
+use lookup::{EntryAt, entry_in_image};
 use names::{add_name, find_name};
+use reader::Reader;
 use tables::{entry, zero_first};
 
 // The entries that are in the index for one directory: from one number up to another.
@@ -32,18 +32,7 @@ pub struct Span {
 fn chain_length(nexts: &[u16], head: AnodeNo) -> usize
     ensures { (result ≡ length (chain_of (λ a. get_or nexts.now a 0) 3444 head.0)) × (result ≤ 3444) }
 {
-    let mut n: usize = 0;
-    let mut at = head.0 as usize;
-    let mut fuel: usize = 3444;
-    while fuel > 0 {
-        if at == 0 {
-            return n;
-        }
-        n += 1;
-        at = entry(nexts, at) as usize;
-        fuel -= 1;
-    }
-    n
+    Links::along(nexts, head).count()
 }
 
 // The number behind which the entries of as many blocks fit: `i`, or 0 in an index that begins anew.
@@ -63,19 +52,13 @@ fn index_block(image: &[u8], index: &mut [u16], i: usize, b: BlockNo) -> usize
     requires { Indexed image.now index.old i × Unbroken (entries_in image.now b.0) × (i + length (entries_in image.now b.0) ≤ 3444) }
     ensures { Added image.now index.old index.new i result (entries_in image.now b.0) }
 {
-    let block = block_part(image, b);
     let mut n = i;
-    let mut at: usize = 16;
-    let mut fuel: usize = 28;
-    while fuel > 0 {
-        let len = read8(block, at) as usize;
-        if len == 0 {
+    for item in Reader::of(block_part(image, b)) {
+        let Ok(read) = item else {
             return n;
-        }
-        add_name(image, index, n, b, at);
+        };
+        add_name(image, index, n, b, read.at);
         n += 1;
-        at += len;
-        fuel -= 1;
     }
     n
 }
@@ -93,15 +76,8 @@ fn index_directory(
     ensures { (c : List ℕ) → Added image.now index.old index.new i result (entries_of image.now (anodes_from c firsts.now nexts.now) head.0) }
 {
     let mut n = i;
-    let mut at = head.0 as usize;
-    let mut fuel: usize = 3444;
-    while fuel > 0 {
-        if at == 0 {
-            return n;
-        }
-        n = index_block(image, index, n, BlockNo(entry(firsts, at)));
-        at = entry(nexts, at) as usize;
-        fuel -= 1;
+    for a in Links::along(nexts, head) {
+        n = index_block(image, index, n, BlockNo(entry(firsts, a.0 as usize)));
     }
     n
 }
@@ -123,40 +99,28 @@ pub fn open_directory(
     Span { from, upto }
 }
 
-// The kind of an entry that keeps the rules, by its type byte: 2 is a directory's.
-fn kind_said(byte: u8) -> Kind
-    ensures { is_dir result ≡ eqb byte 2 }
-{
-    if byte == 2 {
-        return Kind::Directory;
-    }
-    Kind::File
-}
-
 // The entry that stands where the index has entry `j`.
-fn indexed_entry(image: &[u8], index: &[u16], j: usize) -> Lookup
+fn indexed_entry(image: &[u8], index: &[u16], j: usize) -> Option<EntryAt>
     requires { j < 3444 }
     ensures { (e : Entered) → InBlock index.now j → start_of index.now j ≡ e.start → StandsAt image.now e → entry_of image.now result ≡ some e }
 {
     let b = BlockNo(entry(index, 10984 + j));
     let at = entry(index, 14428 + j) as usize;
-    let block = block_part(image, b);
-    Lookup::Found(EntryAt {
-        kind: kind_said(read8(block, at + 1)),
-        anode: AnodeNo(read16(block, at + 2)),
-        size: read32(block, at + 4),
-        start: (b.0 as usize) * 512 + at,
-    })
+    match entry_at(block_part(image, b), at) {
+        Ok(Some(e)) => Some(entry_in_image(b, at, e)),
+        Ok(None) => None,
+        Err(_) => None,
+    }
 }
 
 // The entry of that name in the directory that the span is of.
-pub fn find_counterpart(image: &[u8], index: &[u16], span: Span, name: &[u8]) -> Lookup
+pub fn find_counterpart(image: &[u8], index: &[u16], span: Span, name: &[u8]) -> Option<EntryAt>
     requires { SpanFor image.now index.now span }
     ensures { (h : ℕ) → SpanOf image.now index.now span (entries_of image.now (anodes_of image.now) h) → HeadsDirectory image.now h → entry_of image.now result ≡ entry_named image.now (anodes_of image.now) h name.now }
 {
     let last = find_name(image, index, span.from, span.upto, name);
     if last == 0 {
-        return Lookup::Missing;
+        return None;
     }
     indexed_entry(image, index, (last - 1) as usize)
 }

@@ -1,14 +1,13 @@
 -- There are few differences: no more than the entries of both disks, and of those no more than fit in 3,444 directories of 3,444 blocks with 28 entries each.
-use Rattle.std.specs.Prelude.{ℕ, zero, suc, ◌+◌, ◌*◌, ◌≤◌, ◌≡◌, refl, Bool, cond, ◌&&◌, get_or}
+use Rattle.std.specs.Prelude.{ℕ, zero, suc, ◌+◌, ◌*◌, ◌≤◌, ◌≡◌, refl, Bool, cond, ◌&&◌, get_or, Some, None, Ok, Err}
 use Rattle.std.proofs.Common.{ap, length-append}
 use Rattle.std.proofs.Math.Bool.{true, false}
-use mathlib.Core.List.{List, [], ◌∷◌, ◌++◌, map}
+use mathlib.Core.List.{List, [], ◌∷◌, map}
 use Rattle.std.proofs.Math.Option.{Option, none, some}
 use native.Mathlib.Omega.{arith}
 use Rattle.std.proofs.Math.ListN.{length}
 use Rattle.std.proofs.Math.Dec.{eqb}
-use Rattle.directory.specs.declared.Walked.{Walked}
-use Rattle.directory.specs.declared.Walked.TheVariants.{Found, End, Fault}
+use Rattle.directory.specs.Entries.{Walked}
 use Rattle.directory.specs.Entries.{name_in, walked_at}
 use Rattle.rules.specs.Counting.{gather}
 use Rattle.rules.specs.Anodes.{Anodes, limit, anodes_of}
@@ -20,6 +19,7 @@ use Rattle.paths.specs.Facts.{facts_of}
 use Rattle.differences.specs.Listed.{entry_path, paths}
 use Rattle.differences.specs.Fields.{fields_differing, bytes_differing, first_byte_differing, compared_bytes}
 use Rattle.differences.specs.Differences.{Difference, only_first, only_second, differing, differing_in, in_both, difference_at, only_second_at, differences}
+use Rattle.laws.specs.Chains.{chain_short}
 use Rattle.difference_laws.specs.Complete.{few_dirs}
 
 -- lists of at most k elements each, one behind the other
@@ -32,23 +32,16 @@ length_mapped {ℓ κ} : {X : Type ℓ} {Y : Type κ} (f : X → Y) (l : List X)
 length_mapped f [] = refl
 length_mapped f (x ∷ l) = ap suc (length_mapped f l)
 
--- a chain has no more anodes than its fuel
-length-chain : (next : ℕ → ℕ) (k a : ℕ) → length (chain_of next k a) ≤ k
-unfolding chain_of
-length-chain next zero a = omega arith
-length-chain next (suc k) zero = omega arith
-length-chain next (suc k) (suc a) = omega (arith, length-chain next k (next (suc a)))
-
--- nor a block more entries
+-- a block has no more entries than its fuel
 length_entries : (k : ℕ) (block : List ℕ) (y at : ℕ) → length (entries_from k block y at) ≤ k
 unfolding entries_from
 length_entries zero block y at = omega arith
 length_entries (suc k) block y at = go (walked_at block at) (length_entries k block y (at + get_or block at 0))
   where
     go : (w : Walked) → length (entries_from k block y (at + get_or block at 0)) ≤ k → length (with_rest w (name_in block at) (y * 512 + at) (entries_from k block y (at + get_or block at 0))) ≤ suc k
-    go (Found e) l = omega (arith, l)
-    go End l = omega arith
-    go (Fault r) l = omega arith
+    go (Ok (Some e)) l = omega (arith, l)
+    go (Ok None) l = omega arith
+    go (Err r) l = omega arith
 
 length_block : (img : List ℕ) (y : ℕ) → length (entries_in img y) ≤ 28
 unfolding entries_in
@@ -56,7 +49,7 @@ length_block img y = length_entries 28 _ y 16
 
 length_directory : (img : List ℕ) (s : Anodes) (h : ℕ) → length (entries_of img s h) ≤ 96432
 unfolding entries_of
-length_directory img s h = omega (arith, length_gathered (λ a. entries_in img (s.block a)) 28 (λ a. length_block img (s.block a)) (chain_of s.next limit h), length-chain s.next limit h)
+length_directory img s h = omega (arith, length_gathered (λ a. entries_in img (s.block a)) 28 (λ a. length_block img (s.block a)) (chain_of s.next limit h), chain_short s.next limit h)
 
 length-paths : (img : List ℕ) → length (paths img) ≤ 332111808
 unfolding paths

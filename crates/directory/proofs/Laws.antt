@@ -1,4 +1,5 @@
 -- The cases of the definitions, and what a reader of a directory block gets after a store. Assumes nothing.
+use Rattle.std.specs.Prelude.{Some, None, Result, Ok, Err}
 use mathlib.Core.Path.{◌≡◌, refl, sym, ap, ◌∙◌}
 use Prim.Native.Nat.{ℕ, ◌+◌, ◌-◌, ◌*◌, ◌/◌, ◌%◌, ◌<◌, ◌≤◌}
 use mathlib.Core.List.{List, [], ◌∷◌}
@@ -14,11 +15,9 @@ use Rattle.endian.proofs.Laws.{length-put16, length-put32, be16-put16-same, be16
 use Rattle.directory.specs.declared.DirectoryHeader.{DirectoryHeader}
 use Rattle.directory.specs.declared.Kind.{Kind}
 use Rattle.directory.specs.declared.Kind.TheVariants.{File, Directory}
-use Rattle.directory.specs.declared.KindRead.{KindRead}
-use Rattle.directory.specs.declared.KindRead.TheVariants.{Is, Neither}
+use Rattle.directory.specs.declared.UnknownKind.{UnknownKind}
 use Rattle.directory.specs.declared.Entry.{Entry}
-use Rattle.directory.specs.declared.Walked.{Walked}
-use Rattle.directory.specs.declared.Walked.TheVariants.{Found, End, Fault}
+use Rattle.directory.specs.Entries.{Walked}
 use Rattle.disk.specs.declared.Refusal.{Refusal}
 use Rattle.disk.specs.declared.Refusal.TheVariants.{DirectoryBlock}
 use Rattle.directory.specs.Entries.{directory_header_in, put_directory_header, kind_read, type_of, good_name_byte, all_bytes, good_name, entry_length, name_length, comment_length, name_in, entry_shaped, entry_in, walked_kind, walked_at, put_entry}
@@ -118,7 +117,7 @@ entry_head e =
 
 -- ---- reading an entry that was stored
 
-kind_read-type_of : (k : Kind) → kind_read (type_of k) ≡ Is k
+kind_read-type_of : (k : Kind) → kind_read (type_of k) ≡ Ok k
 unfolding kind_read
 kind_read-type_of File = refl
 kind_read-type_of Directory = refl
@@ -178,7 +177,7 @@ module _ (b : List ℕ) (at : ℕ) (e : Entry) (name comment : List ℕ) where
   get_or-put_entry-end = rw put_entry-run (get_or-cleared_in commented _ _ _ (omega arith) (omega arith))
 
   -- and ends the entries
-  pub walked_at-put_entry-end : walked_at (put_entry b at e name comment) (at + entry_length e.name e.comment) ≡ End
+  pub walked_at-put_entry-end : walked_at (put_entry b at e name comment) (at + entry_length e.name e.comment) ≡ Ok None
   unfolding walked_at
   walked_at-put_entry-end = rw get_or-put_entry-end
 
@@ -251,7 +250,7 @@ module _ (b : List ℕ) (at : ℕ) (e : Entry) (name comment : List ℕ) where
           )
 
       -- a stored entry is found
-      pub walked_at-put_entry : good_name name ≡ true → e.comment ≤ 79 → walked_at (put_entry b at e name comment) at ≡ Found e
+      pub walked_at-put_entry : good_name name ≡ true → e.comment ≤ 79 → walked_at (put_entry b at e name comment) at ≡ Ok (Some e)
       unfolding walked_at entry_shaped entry_length entry_head
       walked_at-put_entry good short =
           let long = good_name-length name good in
@@ -276,15 +275,15 @@ module _ (b : List ℕ) (at : ℕ) (e : Entry) (name comment : List ℕ) where
 
 -- whether an entry was found
 abbrev is_found : Walked → Bool
-is_found (Found e) = true
-is_found End = false
-is_found (Fault r) = false
+is_found (Ok (Some e)) = true
+is_found (Ok None) = false
+is_found (Err r) = false
 
 -- whether the end mark was met
 abbrev is_end : Walked → Bool
-is_end (Found e) = false
-is_end End = true
-is_end (Fault r) = false
+is_end (Ok (Some e)) = false
+is_end (Ok None) = true
+is_end (Err r) = false
 
 -- what an entry that is found says of its length byte
 pub record FoundAt (b : List ℕ) (at : ℕ) : Type 0 where
@@ -300,33 +299,33 @@ shaped_at b at h =
     let within = (and-eq-true_iff (leb (at + get_or b at 0) 510) (leb (comment_length b at) 79 && good_name (name_in b at))).0 fits.1 in
     record { long = omega (arith, exact); exact = exact; room = leb-true (at + get_or b at 0) 510 within.0 }
 
-pub found_at : (b : List ℕ) (at : ℕ) (x : Entry) → walked_at b at ≡ Found x → FoundAt b at
+pub found_at : (b : List ℕ) (at : ℕ) (x : Entry) → walked_at b at ≡ Ok (Some x) → FoundAt b at
 unfolding walked_at
 found_at b at x h = go (eqb (get_or b at 0) 0) (entry_shaped b at) (walked_kind (kind_read (get_or b (at + 1) 0)) (entry_in b at)) refl h
   where
-    go : (p q : Bool) (w : Walked) → entry_shaped b at ≡ q → cond p End (cond q w (Fault DirectoryBlock)) ≡ Found x → FoundAt b at
+    go : (p q : Bool) (w : Walked) → entry_shaped b at ≡ q → cond p (Ok None) (cond q w (Err DirectoryBlock)) ≡ Ok (Some x) → FoundAt b at
     go true q w j f = absurd (false≢true (ap is_found f))
     go false false w j f = absurd (false≢true (ap is_found f))
     go false true w j f = shaped_at b at j
 
 -- the end mark is a length byte 0
-pub end-at : (b : List ℕ) (at : ℕ) → walked_at b at ≡ End → get_or b at 0 ≡ 0
+pub end-at : (b : List ℕ) (at : ℕ) → walked_at b at ≡ Ok None → get_or b at 0 ≡ 0
 unfolding walked_at
 end-at b at h = go (eqb (get_or b at 0) 0) (entry_shaped b at) (kind_read (get_or b (at + 1) 0)) refl h
   where
-    go : (p q : Bool) (k : KindRead) → eqb (get_or b at 0) 0 ≡ p → cond p End (cond q (walked_kind k (entry_in b at)) (Fault DirectoryBlock)) ≡ End → get_or b at 0 ≡ 0
+    go : (p q : Bool) (k : Result Kind UnknownKind) → eqb (get_or b at 0) 0 ≡ p → cond p (Ok None) (cond q (walked_kind k (entry_in b at)) (Err DirectoryBlock)) ≡ Ok None → get_or b at 0 ≡ 0
     go true q k j f = eqb-true (get_or b at 0) 0 j
-    go false true (Is x) j f = absurd (false≢true (ap is_end f))
-    go false true Neither j f = absurd (false≢true (ap is_end f))
+    go false true (Ok x) j f = absurd (false≢true (ap is_end f))
+    go false true (Err w) j f = absurd (false≢true (ap is_end f))
     go false false k j f = absurd (false≢true (ap is_end f))
 
 -- a fault is the refusal of a directory block, 12
-pub fault_at : (b : List ℕ) (at : ℕ) (r : Refusal) → walked_at b at ≡ Fault r → r ≡ DirectoryBlock
+pub fault_at : (b : List ℕ) (at : ℕ) (r : Refusal) → walked_at b at ≡ Err r → r ≡ DirectoryBlock
 unfolding walked_at
 fault_at b at r h = go (eqb (get_or b at 0) 0) (entry_shaped b at) (kind_read (get_or b (at + 1) 0)) h
   where
-    go : (p q : Bool) (k : KindRead) → cond p End (cond q (walked_kind k (entry_in b at)) (Fault DirectoryBlock)) ≡ Fault r → r ≡ DirectoryBlock
+    go : (p q : Bool) (k : Result Kind UnknownKind) → cond p (Ok None) (cond q (walked_kind k (entry_in b at)) (Err DirectoryBlock)) ≡ Err r → r ≡ DirectoryBlock
     go true q k f = absurd (true≢false (ap is_end f))
-    go false true (Is x) f = absurd (true≢false (ap is_found f))
-    go false true Neither f = cc
+    go false true (Ok x) f = absurd (true≢false (ap is_found f))
+    go false true (Err w) f = cc
     go false false k f = cc

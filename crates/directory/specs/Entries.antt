@@ -1,14 +1,12 @@
 -- 01, "Layouts", Directory block and Entry.
-use Rattle.std.specs.Prelude.{ℕ, ◌+◌, ◌-◌, ◌*◌, ◌/◌, ◌%◌, List, [], ◌∷◌, Bool, true, false, cond, not, ◌&&◌, length, get_or, set, take, drop, leb, eqb}
+use Rattle.std.specs.Prelude.{ℕ, Option, Some, None, Result, Ok, Err, ◌+◌, ◌-◌, ◌*◌, ◌/◌, ◌%◌, List, [], ◌∷◌, Bool, true, false, cond, not, ◌&&◌, length, get_or, set, take, drop, leb, eqb}
 use Rattle.endian.specs.Bytes.{be16, be32, put16, put32, stored, cleared}
 use Rattle.directory.specs.declared.DirectoryHeader.{DirectoryHeader}
 use Rattle.directory.specs.declared.Kind.{Kind}
 use Rattle.directory.specs.declared.Kind.TheVariants.{File, Directory}
-use Rattle.directory.specs.declared.KindRead.{KindRead}
-use Rattle.directory.specs.declared.KindRead.TheVariants.{Is, Neither}
+use Rattle.directory.specs.declared.UnknownKind.{UnknownKind}
 use Rattle.directory.specs.declared.Entry.{Entry}
-use Rattle.directory.specs.declared.Walked.{Walked}
-use Rattle.directory.specs.declared.Walked.TheVariants.{Found, End, Fault}
+use Rattle.disk.specs.declared.Refusal.{Refusal}
 use Rattle.disk.specs.declared.Refusal.TheVariants.{DirectoryBlock}
 
 -- the mark `DB`
@@ -24,8 +22,8 @@ unfoldable pub put_directory_header : List ℕ → DirectoryHeader → List ℕ
 put_directory_header b h = put16 (put16 (put16 b 0 h.mark) 12 h.owner.0) 14 h.parent.0
 
 -- type is 253 (file) or 2 (directory)
-unfoldable pub kind_read : ℕ → KindRead
-kind_read byte = cond (eqb byte 253) (Is File) (cond (eqb byte 2) (Is Directory) Neither)
+unfoldable pub kind_read : ℕ → Result Kind UnknownKind
+kind_read byte = cond (eqb byte 253) (Ok File) (cond (eqb byte 2) (Ok Directory) (Err (record { 0 = byte })))
 
 -- the type byte of each kind
 abbrev pub type_of : Kind → ℕ
@@ -92,16 +90,20 @@ entry_in b at kind = record {
   comment = comment_length b at;
 }
 
+-- what stands at a place: an entry, none at the end mark, or a fault
+abbrev pub Walked : Type 0
+Walked = Result (Option Entry) Refusal
+
 -- an entry of that kind, or a fault (12)
-abbrev pub walked_kind : KindRead → (Kind → Entry) → Walked
-walked_kind (Is kind) entry = Found (entry kind)
-walked_kind Neither entry = Fault DirectoryBlock
+abbrev pub walked_kind : Result Kind UnknownKind → (Kind → Entry) → Walked
+walked_kind (Ok kind) entry = Ok (Some (entry kind))
+walked_kind (Err other) entry = Err DirectoryBlock
 
 -- what stands at a place: a length byte 0 ends the entries; an entry that breaks the rules is a fault (12)
 unfoldable pub walked_at : List ℕ → ℕ → Walked
 walked_at b at =
-    cond (eqb (get_or b at 0) 0) End
-    (cond (entry_shaped b at) (walked_kind (kind_read (get_or b (at + 1) 0)) (entry_in b at)) (Fault DirectoryBlock))
+    cond (eqb (get_or b at 0) 0) (Ok None)
+    (cond (entry_shaped b at) (walked_kind (kind_read (get_or b (at + 1) 0)) (entry_in b at)) (Err DirectoryBlock))
 
 -- the block with an entry stored at a place: its length at 0, its type at 1 and the fields as above, the name, the comment's length byte and the comment;
 -- its pad byte and the byte after it become 0

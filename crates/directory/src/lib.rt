@@ -8,18 +8,15 @@ use disk::{AnodeNo, Refusal};
 use endian::{clear, part, read8, read16, read32, store, write8, write16, write32};
 
 // What an entry names.
-#[derive(Clone, Copy)]
+#[derive(Clone, Copy, PartialEq, Eq)]
 pub enum Kind {
     File,
     Directory,
 }
 
-// What an entry's type byte says.
-#[derive(Clone, Copy)]
-pub enum KindRead {
-    Is(Kind),
-    Neither,
-}
+// A type byte that is neither a file's nor a directory's.
+#[derive(Clone, Copy, PartialEq, Eq)]
+pub struct UnknownKind(pub u8);
 
 // An entry's fields; of its name and its comment the lengths.
 #[derive(Clone, Copy)]
@@ -33,14 +30,6 @@ pub struct Entry {
     pub protection: u8,
     pub name: u8,
     pub comment: u8,
-}
-
-// What stands at a place of a directory block.
-#[derive(Clone, Copy)]
-pub enum Walked {
-    Found(Entry),
-    End,
-    Fault(Refusal),
 }
 
 // A directory block's mark, its directory's head anode and the parent directory's.
@@ -72,25 +61,40 @@ pub fn put_directory_header(block: &mut [u8], head: DirectoryHeader)
 }
 
 // What a type byte says: 253 a file, 2 a directory.
-pub fn kind_of(byte: u8) -> KindRead
-    ensures { result ≡ kind_read byte }
-{
-    if byte == 253 {
-        return KindRead::Is(Kind::File);
+impl TryFrom<u8> for Kind {
+    type Error = UnknownKind;
+
+    ghost try_from_gives = { λ byte read. read ≡ kind_read byte };
+
+    fn try_from(byte: u8) -> Result<Kind, UnknownKind> {
+        if byte == 253 {
+            return Ok(Kind::File);
+        }
+        if byte == 2 {
+            return Ok(Kind::Directory);
+        }
+        Err(UnknownKind(byte))
     }
-    if byte == 2 {
-        return KindRead::Is(Kind::Directory);
-    }
-    KindRead::Neither
 }
 
-// Whether an entry is a directory's.
-pub fn is_directory(kind: Kind) -> bool
-    ensures { result ≡ is_dir kind }
-{
-    match kind {
-        Kind::File => false,
-        Kind::Directory => true,
+// The type byte of a kind.
+impl From<Kind> for u8 {
+    ghost from_gives = { λ kind byte. byte ≡ type_of kind };
+
+    fn from(kind: Kind) -> u8 {
+        match kind {
+            Kind::File => 253,
+            Kind::Directory => 2,
+        }
+    }
+}
+
+impl Kind {
+    // Whether an entry is a directory's.
+    pub fn is_directory(self) -> bool
+        ensures { result ≡ is_dir self }
+    {
+        self == Kind::Directory
     }
 }
 
@@ -117,8 +121,8 @@ pub fn name_ok(name: &[u8]) -> bool
     if 107 < name.len() {
         return false;
     }
-    for i in 0..name.len() {
-        if !name_byte(name[i]) {
+    for &byte in name {
+        if !name_byte(byte) {
             return false;
         }
     }
@@ -130,16 +134,6 @@ pub fn entry_len(name: u8, comment: u8) -> usize
     ensures { result ≡ entry_length name comment }
 {
     ((name as usize) + (comment as usize) + 18) / 2 * 2
-}
-
-// The type byte of a kind.
-fn type_of(kind: Kind) -> u8
-    ensures { result ≡ type_of kind }
-{
-    match kind {
-        Kind::File => 253,
-        Kind::Directory => 2,
-    }
 }
 
 // Whether length, name, comment and room of the entry at a place of a directory block are as the rules ask.
@@ -183,24 +177,23 @@ fn entry_in(block: &[u8], at: usize, kind: Kind) -> Entry
     }
 }
 
-// What stands at a place of a directory block: an entry by the rules, the end mark, or neither.
-pub fn entry_at(block: &[u8], at: usize) -> Walked
+// What stands at a place of a directory block: an entry by the rules, none at the end mark, or neither.
+pub fn entry_at(block: &[u8], at: usize) -> Result<Option<Entry>, Refusal>
     ensures { result ≡ walked_at block.now at }
 {
     if block.len() <= at {
-        return Walked::End;
+        return Ok(None);
     }
     if block[at] == 0 {
-        return Walked::End;
+        return Ok(None);
     }
     if !entry_ok(block, at) {
-        return Walked::Fault(Refusal::DirectoryBlock);
+        return Err(Refusal::DirectoryBlock);
     }
-    let read = kind_of(read8(block, at + 1));
-    let KindRead::Is(kind) = read else {
-        return Walked::Fault(Refusal::DirectoryBlock);
-    };
-    Walked::Found(entry_in(block, at, kind))
+    match Kind::try_from(read8(block, at + 1)) {
+        Ok(kind) => Ok(Some(entry_in(block, at, kind))),
+        Err(_) => Err(Refusal::DirectoryBlock),
+    }
 }
 
 // Stores an entry at a place of a directory block, and zeros for its pad byte and the byte after it.
@@ -213,7 +206,7 @@ pub fn put_entry(block: &mut [u8], at: usize, e: Entry, name: &[u8], comment: &[
     let name_end = at + 16 + (e.name as usize);
     let comment_end = name_end + 1 + (e.comment as usize);
     write8(block, at, (len % 256) as u8);
-    write8(block, at + 1, type_of(kind));
+    write8(block, at + 1, u8::from(kind));
     write16(block, at + 2, e.anode.0);
     write32(block, at + 4, e.size);
     write16(block, at + 8, e.day);

@@ -11,7 +11,7 @@ use borrow.Author.Tests.{le-ltb, lt-ltb, eq-eqb, ne_eqb}
 use borrow.Rule.Slice.PartMut.{put_mid, Post-is}
 use Rattle.endian.proofs.Laws.{less?, length-put16}
 use Rattle.disk.specs.declared.Refusal.{Refusal}
-use Rattle.disk.specs.declared.Refusal.TheVariants.{ImageSize, TableSize, DiskType, RootBlock, AnodeBlock, FixedAnode, AnodeRange, ChainLinks, FreeList, TwoOwners, NoOwner, DirectoryBlock, EntryAnode, NamedTwice, FileSize, UnnamedChain, NamesAlike, BadArgument, NoDirectory, NotFound, AlreadyThere, IsDirectory, NotEmpty, PastEnd, NoFreeBlock, NoFreeAnode}
+use Rattle.disk.specs.declared.Refusal.TheVariants.{ImageSize, TableSize, DiskType, RootBlock, AnodeBlock, FixedAnode, AnodeRange, ChainLinks, FreeList, TwoOwners, NoOwner, DirectoryBlock, EntryAnode, NamedTwice, FileSize, UnnamedChain, NamesAlike, BadArgument, NoDirectory, NotFound, AlreadyThere, IsDirectory, NotEmpty, PastEnd, NoFreeBlock, NoFreeAnode, ReportFull, ShortWriteList, BitmapSize, SettingsForm, LongSeconds, ShortOutput}
 use Rattle.disk.specs.Refusals.{number_of}
 use Rattle.disk.specs.Blocks.{block_of, with_block}
 use Rattle.disk.specs.Root.{slot_in, slot_of}
@@ -178,3 +178,9 @@ number_some NotEmpty = omega arith
 number_some PastEnd = omega arith
 number_some NoFreeBlock = omega arith
 number_some NoFreeAnode = omega arith
+number_some ReportFull = omega arith
+number_some ShortWriteList = omega arith
+number_some BitmapSize = omega arith
+number_some SettingsForm = omega arith
+number_some LongSeconds = omega arith
+number_some ShortOutput = omega arith

@@ -1,7 +1,7 @@
--- 01, "Refusal numbers, in the order they are tried", and 02: the number of each case of the refusal enum.
-use Rattle.std.specs.Prelude.{ℕ}
+-- 01, "Refusal numbers, in the order they are tried", and 02, No. 1, 5, 8, 11 and 12: the number of each case of the refusal enum.
+use Rattle.std.specs.Prelude.{ℕ, Result, Ok, Err}
 use Rattle.disk.specs.declared.Refusal.{Refusal}
-use Rattle.disk.specs.declared.Refusal.TheVariants.{ImageSize, TableSize, DiskType, RootBlock, AnodeBlock, FixedAnode, AnodeRange, ChainLinks, FreeList, TwoOwners, NoOwner, DirectoryBlock, EntryAnode, NamedTwice, FileSize, UnnamedChain, NamesAlike, BadArgument, NoDirectory, NotFound, AlreadyThere, IsDirectory, NotEmpty, PastEnd, NoFreeBlock, NoFreeAnode}
+use Rattle.disk.specs.declared.Refusal.TheVariants.{ImageSize, TableSize, DiskType, RootBlock, AnodeBlock, FixedAnode, AnodeRange, ChainLinks, FreeList, TwoOwners, NoOwner, DirectoryBlock, EntryAnode, NamedTwice, FileSize, UnnamedChain, NamesAlike, BadArgument, NoDirectory, NotFound, AlreadyThere, IsDirectory, NotEmpty, PastEnd, NoFreeBlock, NoFreeAnode, ReportFull, ShortWriteList, BitmapSize, SettingsForm, LongSeconds, ShortOutput}
 
 -- one number for each case
 abbrev pub number_of : Refusal → ℕ
@@ -31,3 +31,14 @@ number_of NotEmpty = 25
 number_of PastEnd = 26
 number_of NoFreeBlock = 27
 number_of NoFreeAnode = 28
+number_of ReportFull = 31
+number_of ShortWriteList = 32
+number_of BitmapSize = 40
+number_of SettingsForm = 50
+number_of LongSeconds = 51
+number_of ShortOutput = 52
+
+-- the number that a call answers: 0 where it is done
+abbrev pub answer_of : {X : Type 0} → Result X Refusal → ℕ
+answer_of (Ok x) = 0
+answer_of (Err r) = number_of r

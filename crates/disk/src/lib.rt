@@ -2,7 +2,7 @@
 #![tactic(auto)]
 
 ghost use Rattle.std.specs.Prelude.{◌≡◌, ◌+◌, ◌<◌, min};
-ghost use Rattle.disk.specs.Refusals.{number_of};
+ghost use Rattle.disk.specs.Refusals.{number_of, answer_of};
 ghost use Rattle.disk.specs.Blocks.{block_of};
 ghost use Rattle.disk.specs.Root.{root_in, put_root, slot_in, put_slot, slot_of};
 ghost use Rattle.disk.specs.AnodeBlocks.{anode_made, anode_header_in, put_anode_header, anode_in, put_anode, set_anode};
@@ -10,11 +10,11 @@ ghost use Rattle.disk.specs.AnodeBlocks.{anode_made, anode_header_in, put_anode_
 use endian::{part, read8, read16, read32, store, write8, write16, write32};
 
 // A block's number.
-#[derive(Clone, Copy)]
+#[derive(Clone, Copy, PartialEq, Eq)]
 pub struct BlockNo(pub u16);
 
 // An anode's number.
-#[derive(Clone, Copy)]
+#[derive(Clone, Copy, PartialEq, Eq)]
 pub struct AnodeNo(pub u16);
 
 // How many blocks, the first of them, and the next anode of the chain.
@@ -26,7 +26,7 @@ pub struct Anode {
 }
 
 // One case for each refusal number of the rules.
-#[derive(Clone, Copy)]
+#[derive(Clone, Copy, PartialEq, Eq)]
 pub enum Refusal {
     ImageSize,
     TableSize,
@@ -54,6 +54,12 @@ pub enum Refusal {
     PastEnd,
     NoFreeBlock,
     NoFreeAnode,
+    ReportFull,
+    ShortWriteList,
+    BitmapSize,
+    SettingsForm,
+    LongSeconds,
+    ShortOutput,
 }
 
 // The root block's fixed fields: the disk type, the stamp, the length of the disk's name, first and last reserved.
@@ -77,36 +83,54 @@ pub struct AnodeHeader {
 }
 
 // The number of a refusal.
-pub fn number(r: Refusal) -> u32
-    ensures { result ≡ number_of r }
+impl From<Refusal> for u32 {
+    ghost from_gives = { λ refusal n. n ≡ number_of refusal };
+
+    fn from(refusal: Refusal) -> u32 {
+        match refusal {
+            Refusal::ImageSize => 1,
+            Refusal::TableSize => 2,
+            Refusal::DiskType => 3,
+            Refusal::RootBlock => 4,
+            Refusal::AnodeBlock => 5,
+            Refusal::FixedAnode => 6,
+            Refusal::AnodeRange => 7,
+            Refusal::ChainLinks => 8,
+            Refusal::FreeList => 9,
+            Refusal::TwoOwners => 10,
+            Refusal::NoOwner => 11,
+            Refusal::DirectoryBlock => 12,
+            Refusal::EntryAnode => 13,
+            Refusal::NamedTwice => 14,
+            Refusal::FileSize => 15,
+            Refusal::UnnamedChain => 16,
+            Refusal::NamesAlike => 17,
+            Refusal::BadArgument => 20,
+            Refusal::NoDirectory => 21,
+            Refusal::NotFound => 22,
+            Refusal::AlreadyThere => 23,
+            Refusal::IsDirectory => 24,
+            Refusal::NotEmpty => 25,
+            Refusal::PastEnd => 26,
+            Refusal::NoFreeBlock => 27,
+            Refusal::NoFreeAnode => 28,
+            Refusal::ReportFull => 31,
+            Refusal::ShortWriteList => 32,
+            Refusal::BitmapSize => 40,
+            Refusal::SettingsForm => 50,
+            Refusal::LongSeconds => 51,
+            Refusal::ShortOutput => 52,
+        }
+    }
+}
+
+// The number that a call answers: 0 where it is done.
+pub fn answer(done: Result<(), Refusal>) -> u32
+    ensures { result ≡ answer_of done }
 {
-    match r {
-        Refusal::ImageSize => 1,
-        Refusal::TableSize => 2,
-        Refusal::DiskType => 3,
-        Refusal::RootBlock => 4,
-        Refusal::AnodeBlock => 5,
-        Refusal::FixedAnode => 6,
-        Refusal::AnodeRange => 7,
-        Refusal::ChainLinks => 8,
-        Refusal::FreeList => 9,
-        Refusal::TwoOwners => 10,
-        Refusal::NoOwner => 11,
-        Refusal::DirectoryBlock => 12,
-        Refusal::EntryAnode => 13,
-        Refusal::NamedTwice => 14,
-        Refusal::FileSize => 15,
-        Refusal::UnnamedChain => 16,
-        Refusal::NamesAlike => 17,
-        Refusal::BadArgument => 20,
-        Refusal::NoDirectory => 21,
-        Refusal::NotFound => 22,
-        Refusal::AlreadyThere => 23,
-        Refusal::IsDirectory => 24,
-        Refusal::NotEmpty => 25,
-        Refusal::PastEnd => 26,
-        Refusal::NoFreeBlock => 27,
-        Refusal::NoFreeAnode => 28,
+    match done {
+        Ok(()) => 0,
+        Err(refusal) => u32::from(refusal),
     }
 }
 

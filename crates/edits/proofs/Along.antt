@@ -2,7 +2,7 @@
 use Prim.Native.Nat.{ℕ, zero, suc, ◌+◌, ◌-◌, ◌*◌, ◌<◌, ◌≤◌}
 use mathlib.Core.Path.{◌≡◌, refl, sym, ap, ◌∙◌}
 use mathlib.Core.List.{List, [], ◌∷◌, ◌++◌}
-use mathlib.Core.Option.{none, some}
+use mathlib.Core.Option.{some}
 use native.Mathlib.Numerals.{add-one}
 use native.Mathlib.Omega.{arith}
 use lib.ListN.{length, get_or, drop}
@@ -15,8 +15,8 @@ use Rattle.rules.specs.Chains.{chain_of, run, blocks_of}
 use Rattle.rules.specs.Format.{zero_block}
 use Rattle.rules.specs.Changes.{end_from, entries_end, first_room, with_blocks}
 use Rattle.laws.specs.Bags.{occurrences-here, occurrences-later}
-use Rattle.laws.specs.Chains.{gathered_step, length_run}
-use Rattle.laws.specs.ChainBlocks.{extent, blocks_from}
+use Rattle.laws.specs.Chains.{length_run}
+use Rattle.laws.specs.ChainBlocks.{extent}
 use Rattle.laws.specs.OwnerTable.{set_all}
 use Rattle.anodes.specs.Loaded.{anodes_from}
 use Rattle.edits.specs.Entries.{OneBlockEach}
@@ -36,17 +36,15 @@ run_past b zero i rest h = ap (λ (j : ℕ). get_or rest j 0) (omega arith)
 run_past b (suc c) zero rest h = absurd (omega arith)
 run_past b (suc c) (suc i) rest h = run_past (suc b) c i rest (omega arith) ∙ ap (λ (j : ℕ). get_or rest j 0) (omega arith)
 
-pub nth-none : (l : List ℕ) (i : ℕ) → l ≡ [] → 0 ≡ get_or l i 0
-nth-none l i e = rw e
+-- of a chain that begins with a
+module _ (s : Anodes) (a : ℕ) (rest : List ℕ) (i : ℕ) where
+  pub nth_here : i < s.count a → get_or (gather (extent s) (a ∷ rest)) i 0 ≡ s.block a + i
+  unfolding extent gather
+  nth_here h = run_at (s.block a) (s.count a) i (gather (extent s) rest) h
 
-module _ (s : Anodes) (k m a : ℕ) (fuel : k ≡ m + 1) (some_anode : a ≡ 0 → ⊥) (i : ℕ) where
-  pub nth_here : i < s.count a → get_or (blocks_from s k a) i 0 ≡ s.block a + i
-  unfolding extent
-  nth_here h = rw (gathered_step (extent s) s.next k m a fuel some_anode) (run_at (s.block a) (s.count a) i (blocks_from s m (s.next a)) h)
-
-  pub nth-later : s.count a ≤ i → get_or (blocks_from s k a) i 0 ≡ get_or (blocks_from s m (s.next a)) (i - s.count a) 0
-  unfolding extent
-  nth-later h = rw (gathered_step (extent s) s.next k m a fuel some_anode) (run_past (s.block a) (s.count a) i (blocks_from s m (s.next a)) h)
+  pub nth-later : s.count a ≤ i → get_or (gather (extent s) (a ∷ rest)) i 0 ≡ get_or (gather (extent s) rest) (i - s.count a) 0
+  unfolding extent gather
+  nth-later h = run_past (s.block a) (s.count a) i (gather (extent s) rest) h
 
 -- ---- the blocks behind the first n
 
@@ -68,21 +66,21 @@ run-passed b c n rest h =
     let e : n ≡ length (run b c) + (n - c) = omega arith in
     ap (λ (k : ℕ). drop k (run b c ++ rest)) e ∙ drop-append-add (run b c) rest (n - c)
 
-module _ (s : Anodes) (k m a : ℕ) (fuel : k ≡ m + 1) (some_anode : a ≡ 0 → ⊥) (n : ℕ) where
-  pub behind-here : n ≤ s.count a → drop n (blocks_from s k a) ≡ run (s.block a + n) (s.count a - n) ++ blocks_from s m (s.next a)
-  unfolding extent
-  behind-here h = rw (gathered_step (extent s) s.next k m a fuel some_anode) (run-behind (s.block a) (s.count a) n (blocks_from s m (s.next a)) h)
+module _ (s : Anodes) (a : ℕ) (rest : List ℕ) (n : ℕ) where
+  behind-here : n ≤ s.count a → drop n (gather (extent s) (a ∷ rest)) ≡ run (s.block a + n) (s.count a - n) ++ gather (extent s) rest
+  unfolding extent gather
+  behind-here h = run-behind (s.block a) (s.count a) n (gather (extent s) rest) h
 
-  pub behind-later : s.count a ≤ n → drop n (blocks_from s k a) ≡ drop (n - s.count a) (blocks_from s m (s.next a))
-  unfolding extent
-  behind-later h = rw (gathered_step (extent s) s.next k m a fuel some_anode) (run-passed (s.block a) (s.count a) n (blocks_from s m (s.next a)) h)
+  pub behind-later : s.count a ≤ n → drop n (gather (extent s) (a ∷ rest)) ≡ drop (n - s.count a) (gather (extent s) rest)
+  unfolding extent gather
+  behind-later h = run-passed (s.block a) (s.count a) n (gather (extent s) rest) h
 
   pub zero-here : n ≤ s.count a → (img j : List ℕ) → j ≡ with_blocks img (run (s.block a + n) (s.count a - n)) zero_block
-      → with_blocks j (blocks_from s m (s.next a)) zero_block ≡ with_blocks img (drop n (blocks_from s k a)) zero_block
-  zero-here h img j is = rw (is, behind-here h) (with_blocks-append img (run (s.block a + n) (s.count a - n)) (blocks_from s m (s.next a)) zero_block)
+      → with_blocks j (gather (extent s) rest) zero_block ≡ with_blocks img (drop n (gather (extent s) (a ∷ rest))) zero_block
+  zero-here h img j is = rw (is, behind-here h) (with_blocks-append img (run (s.block a + n) (s.count a - n)) (gather (extent s) rest) zero_block)
 
-  pub set_here : n ≤ s.count a → (v : ℕ) (blocks j : List ℕ) → j ≡ set_all blocks (run (s.block a + n) (s.count a - n)) v → set_all j (blocks_from s m (s.next a)) v ≡ set_all blocks (drop n (blocks_from s k a)) v
-  set_here h v blocks j is = rw (is, behind-here h) (set_all-append blocks (run (s.block a + n) (s.count a - n)) (blocks_from s m (s.next a)) v)
+  pub set_here : n ≤ s.count a → (v : ℕ) (blocks j : List ℕ) → j ≡ set_all blocks (run (s.block a + n) (s.count a - n)) v → set_all j (gather (extent s) rest) v ≡ set_all blocks (drop n (gather (extent s) (a ∷ rest))) v
+  set_here h v blocks j is = rw (is, behind-here h) (set_all-append blocks (run (s.block a + n) (s.count a - n)) (gather (extent s) rest) v)
 
 -- ---- the end mark, from a place on
 
@@ -118,9 +116,9 @@ module _ (img part : List ℕ) (len y end : ℕ) (is : part ≡ block_of img y) 
   unfolding first_room
   room-later h = rw (lt-leb (entries_end (block_of img y) + len) 510 (rw ends at h), first_room)
 
--- the first blocks of at most k anodes from a on
-unfoldable pub firsts_along : List ℕ → List ℕ → ℕ → ℕ → List ℕ
-firsts_along firsts nexts k a = gather (λ x. get_or firsts x 0 ∷ []) (chain_of (λ x. get_or nexts x 0) k a)
+-- the first blocks of these anodes
+abbrev pub firsts_along : List ℕ → List ℕ → List ℕ
+firsts_along firsts chain = gather (λ a. get_or firsts a 0 ∷ []) chain
 
 -- of anodes with count 1 they are all blocks
 single_blocks : (block count : ℕ → ℕ) (l : List ℕ) → ((a : ℕ) → 0 < occurrences a l → count a ≡ 1) → gather (λ a. run (block a) (count a)) l ≡ gather (λ a. block a ∷ []) l
@@ -129,18 +127,7 @@ single_blocks block count [] one = refl
 single_blocks block count (x ∷ l) one =
     rw (one x (occurrences-here x l), single_blocks block count l (λ a p. one a (occurrences-later a x l p)))
 
-module _ (img : List ℕ) (len : ℕ) where
-  pub room-none : (ys : List ℕ) → ys ≡ [] → none ≡ first_room img len ys
-  unfolding first_room
-  room-none ys e = rw e
-
-  module _ (firsts nexts : List ℕ) where
-    pub room_step : (k m a y : ℕ) → k ≡ m + 1 → (a ≡ 0 → ⊥) → y ≡ get_or firsts a 0
-        → first_room img len (y ∷ firsts_along firsts nexts m (get_or nexts a 0)) ≡ first_room img len (firsts_along firsts nexts k a)
-    unfolding firsts_along
-    room_step k m a y fuel n is = rw (gathered_step (λ x. get_or firsts x 0 ∷ []) (λ x. get_or nexts x 0) k m a fuel n, is)
-
-    pub room_whole : (counts : List ℕ) (h : ℕ) → OneBlockEach counts nexts h
-        → first_room img len (firsts_along firsts nexts 3444 h) ≡ first_room img len (blocks_of (anodes_from counts firsts nexts) h)
-    unfolding blocks_of anodes_from firsts_along
-    room_whole counts h one = ap (first_room img len) (sym (single_blocks (λ x. get_or firsts x 0) (λ x. get_or counts x 0) (chain_of (λ x. get_or nexts x 0) 3444 h) one))
+pub room_whole : (img : List ℕ) (len : ℕ) (counts firsts nexts : List ℕ) (h : ℕ) → OneBlockEach counts nexts h
+    → first_room img len (firsts_along firsts (chain_of (λ x. get_or nexts x 0) 3444 h)) ≡ first_room img len (blocks_of (anodes_from counts firsts nexts) h)
+unfolding blocks_of anodes_from
+room_whole img len counts firsts nexts h one = ap (first_room img len) (sym (single_blocks (λ x. get_or firsts x 0) (λ x. get_or counts x 0) (chain_of (λ x. get_or nexts x 0) 3444 h) one))

@@ -1,25 +1,20 @@
 -- Where a directory has room for an entry, where an entry stands, and a block on the way to one entry less; what is asked of the counts in the tables.
-use Rattle.std.specs.Prelude.{ℕ, ◌+◌, ◌*◌, ◌/◌, ◌%◌, ◌<◌, ◌≤◌, ◌≡◌, List, ◌++◌, length, get_or, take, drop}
-use Rattle.std.proofs.Math.Option.{Option, none, some}
+use Rattle.std.specs.Prelude.{ℕ, ◌+◌, ◌*◌, ◌/◌, ◌%◌, ◌<◌, ◌≤◌, ◌≡◌, List, Option, Some, None, length, get_or}
+use Rattle.std.proofs.Math.Option as ghost
+use Rattle.std.proofs.Math.Option.{none, some}
 use Rattle.disk.specs.Blocks.{block_of}
 use Rattle.rules.specs.Counting.{occurrences}
 use Rattle.rules.specs.Chains.{chain_of}
 use Rattle.rules.specs.Changes.{entries_end}
-use Rattle.edits.specs.declared.Room.{Room}
-use Rattle.edits.specs.declared.Room.TheVariants.{At, Nowhere}
 
 -- the room that was found, or what the blocks behind have
-abbrev pub or_rest : Room → Option ℕ → Option ℕ
-or_rest (At start) rest = some start
-or_rest Nowhere rest = rest
+abbrev pub or_rest : Option ℕ → ghost.Option ℕ → ghost.Option ℕ
+or_rest (Some start) rest = some start
+or_rest None rest = rest
 
 -- the place that a search for room answers, if any
-abbrev pub room_of : Room → Option ℕ
+abbrev pub room_of : Option ℕ → ghost.Option ℕ
 room_of r = or_rest r none
-
--- the first k bytes from at + len on, moved to at
-unfoldable pub moved_down : List ℕ → ℕ → ℕ → ℕ → List ℕ
-moved_down b at len k = take at b ++ take k (drop (at + len) b) ++ drop (at + k) b
 
 -- an entry stands whole at a place of the image, before the end mark of its block
 abbrev pub EntryStands : List ℕ → ℕ → Type 0

@@ -12,19 +12,13 @@ ghost use Rattle.rules.specs.Table.{in_block};
 ghost use Rattle.rules.specs.Changes.{with_blocks, zero_tail, with_size, entries_end, first_room, new_entry, entry_of, gap_closed, without_entry};
 ghost use Rattle.laws.specs.OwnerTable.{set_all};
 ghost use Rattle.anodes.specs.Loaded.{anodes_from};
-ghost use Rattle.edits.specs.Entries.{room_of, or_rest, moved_down, EntryStands, ExtentsFit, OneBlockEach};
+ghost use Rattle.edits.specs.Entries.{room_of, or_rest, EntryStands, ExtentsFit, OneBlockEach};
 
 use directory::{DirectoryHeader, Entry, Kind, put_directory_header, put_entry};
 use disk::{Anode, AnodeNo, BlockNo, block_end, block_part, set_anode};
 use endian::{clear, read8, write32};
+use links::Links;
 use tables::{entry, set_entry};
-
-// A place for a new entry, or none.
-#[derive(Clone, Copy)]
-pub enum Room {
-    At(usize),
-    Nowhere,
-}
 
 // Anode `a` of three tables.
 fn anode_from(counts: &[u16], firsts: &[u16], nexts: &[u16], a: AnodeNo) -> Anode
@@ -41,13 +35,7 @@ fn anode_from(counts: &[u16], firsts: &[u16], nexts: &[u16], a: AnodeNo) -> Anod
 fn same_anode(x: Anode, y: Anode) -> bool
     ensures { result ≡ (eqb x.count y.count && (eqb x.block.0 y.block.0 && eqb x.next.0 y.next.0)) }
 {
-    if x.count != y.count {
-        return false;
-    }
-    if x.block.0 != y.block.0 {
-        return false;
-    }
-    x.next.0 == y.next.0
+    x.count == y.count && (x.block == y.block && x.next == y.next)
 }
 
 // True only if the 82 numbers from `from` on are the same in both tables.
@@ -64,13 +52,12 @@ fn same_numbers(old: &[u16], new: &[u16], from: usize) -> bool
     }
     let x = &old[from..end];
     let y = &new[from..end];
-    let mut other: u16 = 0;
+    let mut same = true;
+    // One flat loop without an early way out, so that many numbers are compared at once.
     for i in 0..82 {
-        if x[i] != y[i] {
-            other = 1;
-        }
+        same &= x[i] == y[i];
     }
-    other == 0
+    same
 }
 
 // True only if the 82 anodes from `from` on have the same fields as before.
@@ -86,13 +73,9 @@ fn same_run(
     requires { from.0 + 82 ≤ 3444 }
     ensures { result ≡ true → (a : ℕ) → from.0 ≤ a → a < from.0 + 82 → same_anode (anodes_from counts.now firsts.now nexts.now) (anodes_from new_counts.now new_firsts.now new_nexts.now) a ≡ true }
 {
-    if !same_numbers(counts, new_counts, from.0 as usize) {
-        return false;
-    }
-    if !same_numbers(firsts, new_firsts, from.0 as usize) {
-        return false;
-    }
-    same_numbers(nexts, new_nexts, from.0 as usize)
+    let at = from.0 as usize;
+    same_numbers(counts, new_counts, at)
+        && (same_numbers(firsts, new_firsts, at) && same_numbers(nexts, new_nexts, at))
 }
 
 // Stores each of the 82 anodes from `from` on that has other fields than before.
@@ -163,12 +146,8 @@ pub fn zero_behind(
     ensures { image.new ≡ with_blocks image.old (drop have (blocks_of (anodes_from counts.now firsts.now nexts.now) head.0)) zero_block }
 {
     let mut before = have;
-    let mut at = head.0 as usize;
-    let mut fuel: usize = 3444;
-    while fuel > 0 {
-        if at == 0 {
-            return;
-        }
+    for a in Links::along(nexts, head) {
+        let at = a.0 as usize;
         let count = entry(counts, at);
         if before < count as u64 {
             let passed = before as u16;
@@ -177,8 +156,6 @@ pub fn zero_behind(
         } else {
             before -= count as u64;
         }
-        at = entry(nexts, at) as usize;
-        fuel -= 1;
     }
 }
 
@@ -216,19 +193,13 @@ fn nth_block(counts: &[u16], firsts: &[u16], nexts: &[u16], head: AnodeNo, i: u6
     ensures { result.0 ≡ get_or (blocks_of (anodes_from counts.now firsts.now nexts.now) head.0) i 0 }
 {
     let mut left = i;
-    let mut at = head.0 as usize;
-    let mut fuel: usize = 3444;
-    while fuel > 0 {
-        if at == 0 {
-            return BlockNo(0);
-        }
+    for a in Links::along(nexts, head) {
+        let at = a.0 as usize;
         let count = entry(counts, at);
         if left < count as u64 {
             return BlockNo(entry(firsts, at) + (left as u16));
         }
         left -= count as u64;
-        at = entry(nexts, at) as usize;
-        fuel -= 1;
     }
     BlockNo(0)
 }
@@ -314,62 +285,47 @@ fn entries_end(block: &[u8]) -> usize
     ensures { result ≡ entries_end block.now }
 {
     let mut at: usize = 16;
-    let mut fuel: usize = 28;
-    while fuel > 0 {
+    for _ in 0..28u32 {
         let len = read8(block, at);
         if len == 0 {
             return at;
         }
         at += len as usize;
-        fuel -= 1;
     }
     at
 }
 
 // The place for an entry of `len` bytes in block `b`, where it has room for it and the end mark.
-fn room_in(image: &[u8], b: BlockNo, len: usize) -> Room
+fn room_in(image: &[u8], b: BlockNo, len: usize) -> Option<usize>
     ensures { (ys : List ℕ) → or_rest result (first_room image.now len ys) ≡ first_room image.now len (b.0 ∷ ys) }
 {
     let end = entries_end(block_part(image, b));
     if 510 < end {
-        return Room::Nowhere;
+        return None;
     }
     if 510 - end < len {
-        return Room::Nowhere;
+        return None;
     }
-    Room::At((b.0 as usize) * 512 + end)
+    Some((b.0 as usize) * 512 + end)
 }
 
 // The place for an entry of `len` bytes in the first block of the directory with room for it and the end mark.
-pub fn first_room(image: &[u8], firsts: &[u16], nexts: &[u16], head: AnodeNo, len: usize) -> Room
+pub fn first_room(
+    image: &[u8],
+    firsts: &[u16],
+    nexts: &[u16],
+    head: AnodeNo,
+    len: usize,
+) -> Option<usize>
     ensures { (c : List ℕ) → OneBlockEach c nexts.now head.0 → room_of result ≡ first_room image.now len (blocks_of (anodes_from c firsts.now nexts.now) head.0) }
 {
-    let mut at = head.0 as usize;
-    let mut fuel: usize = 3444;
-    while fuel > 0 {
-        if at == 0 {
-            return Room::Nowhere;
-        }
-        let found = room_in(image, BlockNo(entry(firsts, at)), len);
-        if let Room::At(_) = found {
+    for a in Links::along(nexts, head) {
+        let found = room_in(image, BlockNo(entry(firsts, a.0 as usize)), len);
+        if found.is_some() {
             return found;
         }
-        at = entry(nexts, at) as usize;
-        fuel -= 1;
     }
-    Room::Nowhere
-}
-
-// Moves the `k` bytes from `at + len` on to `at`.
-fn move_down(block: &mut [u8], at: usize, len: usize, k: usize)
-    requires { at + len + k ≤ length block.old }
-    ensures { block.new ≡ moved_down block.old at len k }
-{
-    let mut j = 0;
-    while j < k {
-        block[at + j] = block[at + len + j];
-        j += 1;
-    }
+    None
 }
 
 // Closes the gap of `len` bytes at `at` in the entries of a block that end at `end`, and zeroes as many bytes behind them.
@@ -377,7 +333,7 @@ fn close_gap(block: &mut [u8], at: usize, len: usize, end: usize)
     requires { (at + len ≤ end) × (end ≤ length block.old) }
     ensures { block.new ≡ gap_closed block.old at len end }
 {
-    move_down(block, at, len, end - (at + len));
+    block.copy_within(at + len..end, at);
     clear(block, end - len, len);
 }
 
@@ -399,11 +355,9 @@ pub fn take_out(image: &mut [u8], start: usize)
 fn set_run(blocks: &mut [u16], first: BlockNo, count: u16, owner: AnodeNo)
     ensures { blocks.new ≡ set_all blocks.old (run first.0 count) owner.0 }
 {
-    let mut i = first.0 as usize;
-    let end = i + count as usize;
-    while i < end {
+    let from = first.0 as usize;
+    for i in from..from + count as usize {
         set_entry(blocks, i, owner.0);
-        i += 1;
     }
 }
 
@@ -421,12 +375,8 @@ pub fn set_behind(
     ensures { blocks.new ≡ set_all blocks.old (drop have (blocks_of (anodes_from counts.now firsts.now nexts.now) head.0)) owner.0 }
 {
     let mut before = have;
-    let mut at = head.0 as usize;
-    let mut fuel: usize = 3444;
-    while fuel > 0 {
-        if at == 0 {
-            return;
-        }
+    for a in Links::along(nexts, head) {
+        let at = a.0 as usize;
         let count = entry(counts, at);
         if before < count as u64 {
             let passed = before as u16;
@@ -440,7 +390,5 @@ pub fn set_behind(
         } else {
             before -= count as u64;
         }
-        at = entry(nexts, at) as usize;
-        fuel -= 1;
     }
 }

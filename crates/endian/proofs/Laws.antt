@@ -1,4 +1,4 @@
--- What a reader of bytes gets after a store, numbers and zeros as runs, and the steps of the loops that store a run. Assumes nothing.
+-- What a reader of bytes gets after a store, numbers and zeros as runs, and the part of some bytes that holds a run. Assumes nothing.
 use mathlib.Core.Path.{◌≡◌, refl, sym, ap, ◌∙◌}
 use Prim.Native.Nat.{ℕ, zero, suc, ◌+◌, ◌/◌, ◌%◌, ◌-◌, ◌<◌, ◌≤◌, min}
 use mathlib.Core.List.{List, [], ◌∷◌, ◌++◌, append-nil}
@@ -10,7 +10,11 @@ use native.Mathlib.Omega.{arith}
 use native.Mathlib.Numerals.{add-one}
 use native.Mathlib.Nat.{not-suc-le-zero}
 use lib.ListN.{length, get_or, set, take, drop, replicate, length-set, length-take, length-replicate, get_or-replicate, drop_of_length-le, get_or-eq_default, length-drop, replicate-append-replicate}
-use lib.Seq.{set_out, get_or-set_same, get_or-set_other, get_or-take, ext_get_or, drop-set-lt, drop-cons, drop-nil, length-take-le, length-sets, sets-eq, get_or-drop, take-set-lt, drop-set-add, take_at}
+use lib.Seq.{set_out, get_or-set_same, get_or-set_other, get_or-take, ext_get_or, drop-set-lt, drop-nil, length-take-le, length-sets, get_or-drop, take-set-lt, drop-set-add, take_at}
+use lib.Seq.{take_all}
+use Rattle.std.proofs.lemmas.List.Edits.{sets-eq}
+use Rattle.std.proofs.lemmas.Slice.{put_mid-paste}
+use borrow.Rule.Slice.PartMut.{put_mid}
 use Rattle.endian.specs.Bytes.{be16, be32, put16, put32, stored, cleared}
 
 -- ---- cases
@@ -118,19 +122,10 @@ stored-cons : (l : List ℕ) (at v : ℕ) (s : List ℕ) → stored l at (v ∷ 
 unfolding stored
 stored-cons l at v s = rw (add-one at)
 
--- one more byte of the run, from its byte `j` on
-pub stored_step : (l : List ℕ) (at : ℕ) (s : List ℕ) (j : ℕ) → j < length s
-    → stored l at (drop j s) ≡ stored (set l at (get_or s j 0)) (at + 1) (drop (j + 1) s)
-stored_step l at s j h = rw (drop-cons s j 0 h, add-one j) (stored-cons l at (get_or s j 0) (drop (suc j) s))
-
 -- nothing is stored past the end
 pub stored-out : (l : List ℕ) (at : ℕ) (s : List ℕ) → length l ≤ at → stored l at s ≡ l
 stored-out l at [] h = stored-none l at
 stored-out l at (v ∷ s) h = stored-cons l at v s ∙ rw (set_out l at v h) (stored-out l (at + 1) s (omega arith))
-
--- nothing is left to be stored behind the smaller of both lengths
-pub stored-end : (l : List ℕ) (at : ℕ) (s : List ℕ) (n : ℕ) → n ≡ min (length s) (length l - at) → stored l (at + n) (drop n s) ≡ l
-stored-end l at s n e = ⊎_elim (λ h. stored-out l (at + n) (drop n s) (omega (arith, e, h))) (λ (h : length s ≤ n). rw (drop_of_length-le s {i = n} h) (stored-none l (at + n))) (less? n (length s))
 
 -- as many bytes are stored as there are
 pub stored-take : (l : List ℕ) (at : ℕ) (s : List ℕ) (k : ℕ) → length l ≤ at + k → stored l at (take k s) ≡ stored l at s
@@ -138,6 +133,18 @@ stored-take l at s zero h = stored-none l at ∙ sym (stored-out l at s (omega a
 stored-take l at [] (suc k) h = refl
 stored-take l at (v ∷ s) (suc k) h =
     rw (stored-cons l at v (take k s), stored-cons l at v s) (stored-take (set l at v) (at + 1) s k (simp length-set (omega arith)))
+
+-- a part that holds a run is the run stored
+pub put_mid-stored : (l : List ℕ) (at : ℕ) (s : List ℕ) (n : ℕ) → n ≡ length s → at + n ≤ length l → put_mid at n l s ≡ stored l at s
+unfolding stored
+put_mid-stored l at s n e h = put_mid-paste at n l s s n refl refl e ∙ rw (e, take_all (length s) s (omega arith)) (sym (sets-eq s l at (omega arith)))
+
+-- as many bytes as both have
+pub stored-part : (l : List ℕ) (at : ℕ) (s : List ℕ) (n : ℕ) → n ≡ min (length s) (length l - at) → at ≤ length l → put_mid at (at + n - at) l (take n s) ≡ stored l at s
+stored-part l at s n e h =
+    let k : at + n - at ≡ n = omega arith in
+    rw k (put_mid-stored l at (take n s) n (omega (arith, length-take n s)) (omega arith)
+    ∙ ⊎_elim (λ (b : length l ≤ at + n). stored-take l at s n b) (λ (b : length s ≤ n). rw (take_all n s b)) (elim (less? n (length s)) [ inl m ↦ inl (omega arith) | inr m ↦ inr m ]))
 
 -- a byte that is none of the run's
 pub get_or-stored_other : (l : List ℕ) (at : ℕ) (s : List ℕ) (i : ℕ) → ((j : ℕ) → j < length s → i ≡ at + j → ⊥) → get_or (stored l at s) i 0 ≡ get_or l i 0
@@ -250,10 +257,6 @@ length-cleared l at n = rw (cleared-stored l at n) (length-stored l at (replicat
 pub cleared-none : (l : List ℕ) (at : ℕ) → cleared l at 0 ≡ l
 cleared-none l at = cleared-stored l at 0 ∙ stored-none l at
 
-pub cleared_step : (l : List ℕ) (at n m : ℕ) → n ≡ m + 1 → cleared l at n ≡ cleared (set l at 0) (at + 1) m
-cleared_step l at n m e =
-    rw (e, add-one m, cleared-stored l at (suc m), cleared-stored (set l at 0) (at + 1) m) (stored-cons l at 0 (replicate m 0))
-
 -- zeros read as zeros, and so does what lies past them
 pub get_or_zeros : (n i : ℕ) → get_or {A = ℕ} (replicate n 0) i 0 ≡ 0
 get_or_zeros n i =
@@ -341,6 +344,13 @@ pub take_zeros : (n m : ℕ) → n ≤ m → take {A = ℕ} n (replicate m 0) �
 take_zeros n m l =
     let e : m ≡ n + (m - n) = omega arith in
     ap (λ (k : ℕ). take {A = ℕ} n (replicate k 0)) e ∙ ap (take n) (sym (replicate-append-replicate {A = ℕ} n (m - n) 0)) ∙ take_at (replicate n 0) (replicate (m - n) 0) n (length-replicate {A = ℕ} n 0)
+
+-- a part of zeros, as many as there is room for
+pub cleared-part : (l : List ℕ) (at n k : ℕ) (m : List ℕ) → m ≡ replicate k 0 → k ≡ min n (length l - at) → at ≤ length l → put_mid at (at + k - at) l m ≡ cleared l at n
+cleared-part l at n k m zeros e h =
+    let count : length (replicate {A = ℕ} n 0) ≡ n = length-replicate {A = ℕ} n 0 in
+    rw (zeros, ← take_zeros k n (omega arith), cleared-stored l at n)
+    (stored-part l at (replicate n 0) k (rw count e) h)
 
 -- bytes that are stored, where only bytes behind them are cleared
 pub stored-cleared : (l : List ℕ) (at from n : ℕ) (s : List ℕ) → at + length s ≤ length l → at + length s ≤ from → take (length s) (drop at (cleared (stored l at s) from n)) ≡ s

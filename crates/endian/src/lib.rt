@@ -8,7 +8,7 @@ ghost use Rattle.endian.specs.Bytes.{be16, be32, put16, put32, stored, cleared};
 fn join16(high: u8, low: u8) -> u16
     ensures { result ≡ high * 256 + low }
 {
-    (high as u16) * 256 + (low as u16)
+    u16::from_be_bytes([high, low])
 }
 
 // The 32-bit number of two 16-bit numbers.
@@ -22,10 +22,7 @@ fn join32(high: u16, low: u16) -> u32
 pub fn read8(bytes: &[u8], at: usize) -> u8
     ensures { result ≡ get_or bytes.now at 0 }
 {
-    if bytes.len() <= at {
-        return 0;
-    }
-    bytes[at]
+    bytes.get(at).copied().unwrap_or(0)
 }
 
 // The 16-bit number at `at`, its high byte first.
@@ -52,90 +49,59 @@ pub fn read32(bytes: &[u8], at: usize) -> u32
 pub fn write8(bytes: &mut [u8], at: usize, v: u8)
     ensures { bytes.new ≡ set bytes.old at v }
 {
-    if bytes.len() <= at {
-        return;
+    if at < bytes.len() {
+        bytes[at] = v;
     }
-    bytes[at] = v;
 }
 
 // Stores a 16-bit number at `at`, its high byte first.
 pub fn write16(bytes: &mut [u8], at: usize, v: u16)
     ensures { bytes.new ≡ put16 bytes.old at v }
 {
-    if bytes.len() <= at {
-        return;
+    if at < bytes.len() {
+        let [high, low] = v.to_be_bytes();
+        bytes[at] = high;
+        write8(bytes, at + 1, low);
     }
-    bytes[at] = (v / 256) as u8;
-    write8(bytes, at + 1, (v % 256) as u8);
 }
 
 // Stores a 32-bit number at `at`, its high byte first.
 pub fn write32(bytes: &mut [u8], at: usize, v: u32)
     ensures { bytes.new ≡ put32 bytes.old at v }
 {
-    if bytes.len() <= at {
-        return;
+    if at < bytes.len() {
+        write16(bytes, at, (v / 65536) as u16);
+        write16(bytes, at + 2, (v % 65536) as u16);
     }
-    write16(bytes, at, (v / 65536) as u16);
-    write16(bytes, at + 2, (v % 65536) as u16);
 }
 
 // The `n` bytes from `from` on, as many of them as there are.
 pub fn part(bytes: &[u8], from: usize, n: usize) -> &[u8]
     ensures { result.now ≡ take n (drop from bytes.now) }
 {
-    let len = bytes.len();
-    if len <= from {
-        return &bytes[0..0];
-    }
-    if len - from <= n {
-        return &bytes[from..len];
-    }
-    let end = from + n;
-    &bytes[from..end]
+    let start = from.min(bytes.len());
+    let end = start + n.min(bytes.len() - start);
+    &bytes[start..end]
 }
 
-// The smaller of two lengths.
-pub fn smaller(a: usize, b: usize) -> usize
-    ensures { result ≡ min a b }
-{
-    if a < b {
-        return a;
-    }
-    b
-}
-
-// Stores the bytes of `source` from `at` on: one length for the loop, so that many are copied at once.
+// Stores the bytes of `source` from `at` on, as many of them as there is room for.
 pub fn store(bytes: &mut [u8], at: usize, source: &[u8])
     ensures { bytes.new ≡ stored bytes.old at source.now }
 {
-    if bytes.len() <= at {
-        return;
-    }
-    let n = smaller(source.len(), bytes.len() - at);
-    let mut j = 0;
-    while j < n {
-        bytes[at + j] = source[j];
-        j += 1;
+    let len = bytes.len();
+    if at < len {
+        let n = source.len().min(len - at);
+        bytes[at..at + n].copy_from_slice(&source[..n]);
     }
 }
 
-// Stores `n` zero bytes from `at` on.
+// Stores `n` zero bytes from `at` on, as many of them as there is room for.
 pub fn clear(bytes: &mut [u8], at: usize, n: usize)
     ensures { bytes.new ≡ cleared bytes.old at n }
 {
     let len = bytes.len();
-    if len <= at {
-        return;
-    }
-    let mut j = at;
-    let mut left = n;
-    while left > 0 {
-        if len <= j {
-            return;
-        }
-        bytes[j] = 0;
-        j += 1;
-        left -= 1;
+    if at < len {
+        let k = n.min(len - at);
+        bytes[at..at + k].fill(0);
     }
 }

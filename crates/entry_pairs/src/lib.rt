@@ -1,4 +1,4 @@
-// An entry of the first image with its counterpart in the second: what is noted of the pair, and the difference that is handing_with out.
+// An entry of the first image with its counterpart in the second: what is noted of the pair, and the difference that is handed out.
 #![tactic(auto)]
 
 ghost use Rattle.std.specs.Prelude.{◌&&◌, List, ◌∷◌, [], ◌≡◌, ℕ, eqb, set};
@@ -15,10 +15,10 @@ ghost use Rattle.entry_pairs.specs.Readable.{Readable};
 ghost use Rattle.entry_pairs.specs.Bytes.{differing_bytes};
 
 use byte_differences::{Differing, differing_bytes};
-use directory::{Kind, is_directory};
+use directory::Kind;
 use entry_fields::fields_differing;
 use handing::{Both, Differs, Handed, hand_out, has_no_room};
-use lookup::{EntryAt, Lookup};
+use lookup::EntryAt;
 use tables::set_entry;
 
 // The bytes in which two entries of one path differ: those of files, if both are.
@@ -38,12 +38,10 @@ fn entry_bytes(
     requires loaded_2 { Loaded other.now other_counts.now other_firsts.now other_nexts.now × Readable other.now (entered other.now f) }
     ensures { result ≡ differing_bytes image.now other.now (entered image.now e) (entered other.now f) }
 {
-    let kind = e.kind;
-    if is_directory(kind) {
+    if e.kind.is_directory() {
         return Differing { first: 0, many: 0 };
     }
-    let other_kind = f.kind;
-    if is_directory(other_kind) {
+    if f.kind.is_directory() {
         return Differing { first: 0, many: 0 };
     }
     differing_bytes(
@@ -66,10 +64,7 @@ fn entry_bytes(
 fn is_same(fields: u32, many: u32) -> bool
     ensures { result ≡ (eqb fields 0 && eqb many 0) }
 {
-    if fields != 0 {
-        return false;
-    }
-    many == 0
+    fields == 0 && many == 0
 }
 
 // Hands out what two entries of one path differ in; nothing where all fields and bytes are the same.
@@ -121,34 +116,32 @@ fn hand_both(
 }
 
 // The directory of the second image at the path of one of the first, by its head; 0 unless both entries name directories.
-fn partner(kind: Kind, found: Lookup) -> u16
+fn partner(kind: Kind, found: Option<EntryAt>) -> u16
     ensures { (img j : List ℕ) (e : EntryAt) → e.kind ≡ kind → result ≡ partner_of (entered img e) (entry_of j found) }
 {
-    let Lookup::Found(f) = found else {
+    let Some(f) = found else {
         return 0;
     };
-    if !is_directory(kind) {
+    if !kind.is_directory() {
         return 0;
     }
-    let other_kind = f.kind;
-    if !is_directory(other_kind) {
+    if !f.kind.is_directory() {
         return 0;
     }
     f.anode.0
 }
 
 // Notes the pair of an entry and its counterpart in both tables.
-fn note_pair(partners: &mut [u16], met: &mut [u16], e: EntryAt, found: Lookup)
+fn note_pair(partners: &mut [u16], met: &mut [u16], e: EntryAt, found: Option<EntryAt>)
     ensures { (img j : List ℕ) → pairs_of partners.new met.new ≡ pairs_of (set partners.old e.anode.0 (partner_of (entered img e) (entry_of j found))) (met_by met.old (entry_of j found)) }
 {
-    let kind = e.kind;
-    set_entry(partners, e.anode.0 as usize, partner(kind, found));
-    if let Lookup::Found(f) = found {
+    set_entry(partners, e.anode.0 as usize, partner(e.kind, found));
+    if let Some(f) = found {
         set_entry(met, f.anode.0 as usize, 1);
     }
 }
 
-// An entry of the first image with its counterpart: the pair is noted, and the difference is handing_with out.
+// An entry of the first image with its counterpart: the pair is noted, and the difference is handed out.
 pub fn compare_entry(
     image: &[u8],
     counts: &[u16],
@@ -159,7 +152,7 @@ pub fn compare_entry(
     other_counts: &[u16],
     other_firsts: &[u16],
     other_nexts: &[u16],
-    found: Lookup,
+    found: Option<EntryAt>,
     partners: &mut [u16],
     met: &mut [u16],
     out: &mut [u32],
@@ -172,7 +165,7 @@ pub fn compare_entry(
 {
     note_pair(partners, met, e, found);
     match found {
-        Lookup::Found(f) => hand_both(
+        Some(f) => hand_both(
             image,
             counts,
             firsts,
@@ -186,6 +179,6 @@ pub fn compare_entry(
             out,
             c,
         ),
-        Lookup::Missing => hand_out(out, c, Differs::OnlyFirst(e.start as u32)),
+        None => hand_out(out, c, Differs::OnlyFirst(e.start as u32)),
     }
 }

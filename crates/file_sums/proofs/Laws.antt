@@ -1,22 +1,18 @@
 -- Laws of the sums over entries, and of how far they can come. Assumes nothing.
-use Prim.Native.Nat.{ℕ, suc, ◌+◌, ◌-◌, ◌<◌, ◌≤◌}
+use Prim.Native.Nat.{ℕ, suc, ◌+◌, ◌<◌, ◌≤◌}
 use mathlib.Core.Path.{◌≡◌, sym}
-use mathlib.Core.Logic.{◌≢◌}
 use mathlib.Core.List.{List, [], ◌∷◌, ◌++◌}
 use native.Mathlib.Omega.{arith}
 use native.Mathlib.Numerals.{add-one}
 use lib.ListN.{get_or}
 use borrow.Author.Tests.{lt-ltb, le-ltb}
 use Rattle.directory.specs.declared.Entry.{Entry}
-use Rattle.directory.specs.declared.Walked.{Walked}
-use Rattle.directory.specs.declared.Walked.TheVariants.{Found}
 use Rattle.directory.specs.declared.Kind.TheVariants.{File, Directory}
 use Rattle.rules.specs.Counting.{sum_list, gather}
-use Rattle.rules.specs.Walk.{Entered, with_rest, entries_in}
+use Rattle.rules.specs.Walk.{Entered, entries_in}
 use Rattle.laws.specs.Bags.{list_nil, list_one, list_append}
-use Rattle.laws.specs.Chains.{gathered_none, gathered_end, gathered_step}
 use Rattle.laws.specs.Entries.{entered_at}
-use Rattle.lookup.proofs.Laws.{entries_along}
+use Rattle.lookup.proofs.Laws.{entries_along, along}
 use Rattle.walk_steps.specs.Steps.{dirs_from, queue_of}
 use Rattle.report.specs.Runs.{one_if_many}
 use Rattle.report.specs.Figures.{file_size}
@@ -59,27 +55,16 @@ module _ (starts : List ℕ) (e : Entry) (name : List ℕ) (start : ℕ) (t : Fi
       let s : t.split + 0 ≡ t.split = omega arith in
       rw (list_one file_size (entered_at e name start), list_one (one_if_apart starts) (entered_at e name start), k, b, s)
 
--- what is read at a place, with the entries behind it
-pub sums_found : (starts : List ℕ) (t : FileSums) (w : Walked) (name : List ℕ) (start : ℕ) (rest : List Entered) (e : Entry) (r : FileSums) → w ≡ Found e → r ≡ sums_with starts t (entered_at e name start ∷ []) → sums_with starts r rest ≡ sums_with starts t (with_rest w name start rest)
-sums_found starts t w name start rest e r is added = rw (is, added) (sym (sums_join starts t (entered_at e name start ∷ []) rest))
+-- the first of some entries, with those behind it
+pub sums_first : (starts : List ℕ) (t : FileSums) (es : List Entered) (e : Entered) (rest : List Entered) (r : FileSums) → es ≡ e ∷ rest → r ≡ sums_with starts t (e ∷ []) → sums_with starts r rest ≡ sums_with starts t es
+sums_first starts t es e rest r is added = rw (is, added) (sym (sums_join starts t (e ∷ []) rest))
 
 -- ---- along a chain and along the queue
 
-module _ (starts : List ℕ) (t : FileSums) (img firsts nexts : List ℕ) where
-  pub along_ended : (k a : ℕ) → a ≡ 0 → sums_with starts t (entries_along img firsts nexts k a) ≡ t
-  unfolding entries_along
-  along_ended k a e = sums_none starts t _ (gathered_end _ _ k a e)
-
-  pub along_none : (k a : ℕ) → k ≡ 0 → sums_with starts t (entries_along img firsts nexts k a) ≡ t
-  unfolding entries_along
-  along_none k a e = sums_none starts t _ (gathered_none _ _ k a e)
-
-  -- the entries of anode a's block, and those behind it
-  pub along_more : (k m a : ℕ) → k ≡ m + 1 → a ≢ 0 → (r : FileSums) → r ≡ sums_with starts t (entries_in img (get_or firsts a 0)) →
-      sums_with starts r (entries_along img firsts nexts m (get_or nexts a 0)) ≡ sums_with starts t (entries_along img firsts nexts k a)
-  unfolding entries_along
-  along_more k m a fuel some r added =
-      rw (gathered_step (λ x. entries_in img (get_or firsts x 0)) (λ x. get_or nexts x 0) k m a fuel some, added) (sym (sums_join starts t _ _))
+-- the entries of the first of some anodes, and those behind it
+pub along_more : (starts : List ℕ) (t : FileSums) (img firsts anodes : List ℕ) (a : ℕ) (rest : List ℕ) → anodes ≡ a ∷ rest → (r : FileSums) → r ≡ sums_with starts t (entries_in img (get_or firsts a 0)) →
+    sums_with starts r (entries_along img firsts rest) ≡ sums_with starts t (entries_along img firsts anodes)
+along_more starts t img firsts anodes a rest is r added = rw (along img firsts anodes a rest is, added) (sym (sums_join starts t _ _))
 
 module _ (starts : List ℕ) (t : FileSums) (entries : ℕ → List Entered) (queue parents : List ℕ) where
   -- the entries of n directories of the queue, from i on

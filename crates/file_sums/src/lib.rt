@@ -11,9 +11,10 @@ ghost use Rattle.anodes.specs.Loaded.{anodes_from};
 ghost use Rattle.walk_steps.specs.Steps.{queue_of};
 ghost use Rattle.file_sums.specs.Sums.{sums_made, sums_with, EntriesFit, Within};
 
-use directory::{Entry, Kind, Walked};
+use directory::{Entry, Kind};
 use disk::{AnodeNo, BlockNo, block_part};
-use reader::read_entry;
+use links::Links;
+use reader::Reader;
 use tables::entry;
 
 // The bytes of files, and how many files are in more than one run.
@@ -45,8 +46,7 @@ fn add_entry(starts: &[u16], e: Entry, t: FileSums) -> FileSums
     requires { EntriesFit t 1 }
     ensures { ((name : List ℕ) (start : ℕ) → result ≡ sums_with starts.now t (entered_at e name start ∷ [])) × Within t result 1 }
 {
-    let kind = e.kind;
-    match kind {
+    match e.kind {
         Kind::File => FileSums {
             bytes: t.bytes + file_bytes(e.size),
             split: t.split + one_if_many(starts, e.anode),
@@ -60,21 +60,12 @@ fn add_block(image: &[u8], starts: &[u16], b: BlockNo, t: FileSums) -> FileSums
     requires { Unbroken (entries_in image.now b.0) × EntriesFit t 28 }
     ensures { (result ≡ sums_with starts.now t (entries_in image.now b.0)) × Within t result 28 }
 {
-    let block = block_part(image, b);
     let mut sums = t;
-    let mut at: usize = 16;
-    let mut fuel: usize = 28;
-    while fuel > 0 {
-        let read = read_entry(block, at);
-        let walked = read.walked;
-        let e = match walked {
-            Walked::Found(e) => e,
-            Walked::End => return sums,
-            Walked::Fault(_) => return sums,
+    for item in Reader::of(block_part(image, b)) {
+        let Ok(read) = item else {
+            return sums;
         };
-        sums = add_entry(starts, e, sums);
-        at = read.after;
-        fuel -= 1;
+        sums = add_entry(starts, read.entry, sums);
     }
     sums
 }
@@ -92,15 +83,9 @@ fn add_directory(
     ensures { (result ≡ sums_with starts.now t (entries_of image.now (anodes_from [] firsts.now nexts.now) head.0)) × Within t result 96432 }
 {
     let mut sums = t;
-    let mut at = head.0 as usize;
-    let mut fuel: usize = 3444;
-    while fuel > 0 {
-        if at == 0 {
-            return sums;
-        }
-        sums = add_block(image, starts, BlockNo(entry(firsts, at)), sums);
-        at = entry(nexts, at) as usize;
-        fuel -= 1;
+    for a in Links::along(nexts, head) {
+        let b = BlockNo(entry(firsts, a.0 as usize));
+        sums = add_block(image, starts, b, sums);
     }
     sums
 }
@@ -118,8 +103,7 @@ pub fn sum_files(
     ensures { (parents : List ℕ) → result ≡ sums_with starts.now (sums_made 0 0) (gather (λ d. entries_of image.now (anodes_from [] firsts.now nexts.now) d.head) (queue_of queue.now parents dirs)) }
 {
     let mut sums = FileSums { bytes: 0, split: 0 };
-    let mut i: u16 = 0;
-    while i < dirs {
+    for i in 0..dirs {
         sums = add_directory(
             image,
             firsts,
@@ -128,7 +112,6 @@ pub fn sum_files(
             AnodeNo(entry(queue, i as usize)),
             sums,
         );
-        i += 1;
     }
     sums
 }

@@ -1,5 +1,5 @@
 -- Whether there is a first entry along a chain, block by block. Assumes nothing.
-use Prim.Native.Nat.{ℕ, ◌+◌}
+use Prim.Native.Nat.{ℕ}
 use mathlib.Core.Path.{◌≡◌, refl, sym, ap, ◌∙◌}
 use mathlib.Core.Bool.{true, false, true≢false, false≢true}
 use mathlib.Core.List.{List, [], ◌∷◌, ◌++◌}
@@ -20,17 +20,17 @@ unfolding nth
 none_before [] rest h = refl
 none_before (e ∷ es) rest h = absurd (true≢false h)
 
--- the block of anode a, and the chain of at most k anodes from a on
-module _ (img firsts nexts : List ℕ) (k m a : ℕ) (fuel : k ≡ m + 1) (some_anode : a ≡ 0 → ⊥) (block : List ℕ) (part : block ≡ block_of img (get_or firsts a 0)) where
+-- the block of the first of some anodes, and those behind it
+module _ (img firsts anodes : List ℕ) (a : ℕ) (rest : List ℕ) (is : anodes ≡ a ∷ rest) (block : List ℕ) (part : block ≡ block_of img (get_or firsts a 0)) where
   -- the entries behind the block
-  abbrev rest : List Entered
-  rest = entries_along img firsts nexts m (get_or nexts a 0)
+  abbrev behind : List Entered
+  behind = entries_along img firsts rest
 
-  along : nth (entries_in img (get_or firsts a 0) ++ rest) 0 ≡ nth (entries_along img firsts nexts k a) 0
-  along = nth_along img firsts nexts k m a fuel some_anode 0 _ refl
+  along : nth (entries_in img (get_or firsts a 0) ++ behind) 0 ≡ nth (entries_along img firsts anodes) 0
+  along = nth_along img firsts anodes a rest is 0 _ refl
 
-  pub there_along : is_there (nth (entries_from 28 block (get_or firsts a 0) 16) 0) ≡ true → is_there (nth (entries_along img firsts nexts k a) 0) ≡ true
-  there_along h = sym (ap is_there along) ∙ there-before (entries_in img (get_or firsts a 0)) rest (rw (block_whole img (get_or firsts a 0) block part) at h)
+  pub there_along : is_there (nth (entries_from 28 block (get_or firsts a 0) 16) 0) ≡ true → is_there (nth (entries_along img firsts anodes) 0) ≡ true
+  there_along h = sym (ap is_there along) ∙ there-before (entries_in img (get_or firsts a 0)) behind (rw (block_whole img (get_or firsts a 0) block part) at h)
 
-  pub none_along : is_there (nth (entries_from 28 block (get_or firsts a 0) 16) 0) ≡ false → nth rest 0 ≡ nth (entries_along img firsts nexts k a) 0
-  none_along h = sym (none_before (entries_in img (get_or firsts a 0)) rest (rw (block_whole img (get_or firsts a 0) block part) at h)) ∙ along
+  pub none_along : is_there (nth (entries_from 28 block (get_or firsts a 0) 16) 0) ≡ false → nth behind 0 ≡ nth (entries_along img firsts anodes) 0
+  none_along h = sym (none_before (entries_in img (get_or firsts a 0)) behind (rw (block_whole img (get_or firsts a 0) block part) at h)) ∙ along

@@ -1,4 +1,7 @@
 -- What an open image says of its reached directories, and what a search answers.
+use Rattle.std.specs.Prelude.{Option as Answer, Some, None, Result}
+use Rattle.std.specs.Option.{ok_or}
+use Rattle.disk.specs.declared.Refusal.TheVariants.{NotFound}
 use Prim.Native.Nat.{ℕ, zero, suc, ◌≤◌, ◌<◌}
 use mathlib.Core.Path.{◌≡◌, refl, sym, ap, ◌∙◌}
 use mathlib.Core.Bool.{Bool, true, false, cond, not}
@@ -24,13 +27,17 @@ use Rattle.laws.specs.Entries.{Unbroken}
 use Rattle.change_laws.specs.Answers.{search_number}
 use Rattle.change_laws.specs.Image.{accepted_own, accepted_whole}
 use Rattle.change_laws.specs.Reached.{reached_head, reached_unbroken}
-use Rattle.lookup.specs.declared.Lookup.{Lookup}
+use Rattle.lookup.specs.declared.EntryAt.{EntryAt}
 use Rattle.lookup.specs.Answers.{entry_of}
 use Rattle.lookup.specs.Queued.{place_of, OwnHeads}
 use Rattle.lookup.proofs.Queue.{place_found, place_occurrences}
 use Rattle.find.specs.Open.{Open}
-use Rattle.find.specs.declared.Search.{Search}
 use Rattle.find.specs.Found.{Finds}
+
+-- what a lookup found, or 22
+found_or : (img : List ℕ) (l : Answer EntryAt) → Finds img (ok_or l NotFound) (search_number false (entry_of img l)) (entry_of img l)
+found_or img (Some e) = (refl, refl)
+found_or img None = refl
 
 module _ {img counts firsts nexts queue parents heads : List ℕ} {dirs : ℕ} (o : Open img counts firsts nexts queue parents heads dirs) where
   -- the test of 21 is the search in the queue
@@ -38,12 +45,16 @@ module _ {img counts firsts nexts queue parents heads : List ℕ} {dirs : ℕ} (
   unfolding no_directory
   reached-queued h r e = sym (e parents ∙ ap (λ (l : List Dir). none_headed l h) o.queued)
 
+  -- as it is said
+  pub reached_said : (h : ℕ) (r v : Bool) → ((p : List ℕ) → not r ≡ none_headed (queue_of queue p dirs) h) → r ≡ v → no_directory img (anodes_of img) h ≡ not v
+  reached_said h r v e is = reached-queued h r e ∙ ap not is
+
   -- a directory of the queue is reached
   pub queued-reached : (i : ℕ) → i < dirs → no_directory img (anodes_of img) (get_or queue i 0) ≡ false
   queued-reached i l =
       let h = get_or queue i 0 in
       let found = place_found queue h 0 dirs i (omega arith) (omega arith) refl in
-      reached-queued h (ltb (place_of queue h 0 dirs) dirs) (λ p. place_occurrences queue h p dirs) ∙ ap not (lt-ltb (place_of queue h 0 dirs) dirs (omega (arith, found)))
+      reached_said h (ltb (place_of queue h 0 dirs) dirs) true (λ p. place_occurrences queue h p dirs) (lt-ltb (place_of queue h 0 dirs) dirs (omega (arith, found)))
 
   -- a reached directory's head is its own head in the table that the check filled
   pub own_heads : OwnHeads heads queue dirs
@@ -62,10 +73,10 @@ module _ {img counts firsts nexts queue parents heads : List ℕ} {dirs : ℕ} (
   pub by_image : {X : Type 0} (f : Anodes → X) (x : X) → ((c : List ℕ) → x ≡ f (anodes_from c firsts nexts)) → x ≡ f (anodes_of img)
   by_image f x e = e counts ∙ ap f o.loaded.is_loaded
 
-  -- a search in a reached directory answers what the lookup found
-  pub search_answered : (h : ℕ) → no_directory img (anodes_of img) h ≡ false → (f : Anodes → Option Entered) (l : Lookup) → ((c : List ℕ) → entry_of img l ≡ f (anodes_from c firsts nexts)) → (r : Search) →
-      ((i : List ℕ) → Finds i r (search_number false (entry_of i l)) (entry_of i l)) → Finds img r (search_number (no_directory img (anodes_of img) h) (f (anodes_of img))) (f (anodes_of img))
-  search_answered h reached f l same r a = rw (reached, ← by_image f (entry_of img l) same) (a img)
+  -- a search in a reached directory answers what the lookup found, or 22
+  pub search_answered : (h : ℕ) → no_directory img (anodes_of img) h ≡ false → (f : Anodes → Option Entered) (l : Answer EntryAt) → ((c : List ℕ) → entry_of img l ≡ f (anodes_from c firsts nexts)) → (r : Result EntryAt Refusal) →
+      r ≡ ok_or l NotFound → Finds img r (search_number (no_directory img (anodes_of img) h) (f (anodes_of img))) (f (anodes_of img))
+  search_answered h reached f l same r is = rw (reached, ← by_image f (entry_of img l) same, is) (found_or img l)
 
   -- the test of 25, by the blocks and nexts alone
   pub nonempty_by : (e : Entered) (r : Bool) → ((c : List ℕ) → r ≡ cond e.dir (is_there (nth (entries_of img (anodes_from c firsts nexts) e.anode) 0)) false) → not_empty_dir img (anodes_of img) (some e) ≡ r
@@ -73,11 +84,8 @@ module _ {img counts firsts nexts queue parents heads : List ℕ} {dirs : ℕ} (
   nonempty_by e r same = sym (by_image (λ (s : Anodes). cond e.dir (is_there (nth (entries_of img s e.anode) 0)) false) r same)
 
 -- what a lookup found, an entry or none, is what is looked for
-pub search_is : (img : List ℕ) (e : Option Entered) (r q : Lookup) → entry_of img r ≡ e → r ≡ q → e ≡ entry_of img q
+pub search_is : (img : List ℕ) (e : Option Entered) (r q : Answer EntryAt) → entry_of img r ≡ e → r ≡ q → e ≡ entry_of img q
 search_is img e r q found is = sym found ∙ ap (entry_of img) is
-
-pub search-there : (o : Option Entered) (x : Entered) → o ≡ some x → search_number false o ≡ 0
-search-there o x is = rw is
 
 -- ---- a number that is not 0
 

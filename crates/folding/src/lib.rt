@@ -9,28 +9,12 @@ ghost use Rattle.rules.specs.Folding.{fold as fold_of, folded};
 pub fn fold(b: u8) -> u8
     ensures { result ≡ fold_of b }
 {
-    if b < 65 {
-        return b;
-    }
-    if 90 < b {
-        return b;
-    }
-    b + 32
+    b.to_ascii_lowercase()
 }
 
 // Whether two names are the same after folding.
 pub fn same_folded(one: &[u8], other: &[u8]) -> bool
     ensures { result ≡ same_bytes (folded one.now) (folded other.now) }
 {
-    if one.len() != other.len() {
-        return false;
-    }
-    let mut i = 0;
-    while i < one.len() {
-        if fold(one[i]) != fold(other[i]) {
-            return false;
-        }
-        i += 1;
-    }
-    true
+    one.eq_ignore_ascii_case(other)
 }

@@ -3,6 +3,7 @@
 
 ghost use Rattle.std.specs.Prelude.{◌≡◌, false, ℕ, ◌+◌, ◌*◌, ◌<◌, ◌≤◌, length, replicate};
 ghost use Rattle.endian.specs.Bytes.{put32};
+ghost use Rattle.disk.specs.Refusals.{answer_of};
 ghost use Rattle.disk.specs.Blocks.{block_of, with_block};
 ghost use Rattle.disk.specs.Root.{pfs0};
 ghost use Rattle.disk.specs.AnodeBlocks.{anode_made};
@@ -13,8 +14,8 @@ ghost use Rattle.rules.specs.Calls.{format_outcome};
 
 use directory::{DirectoryHeader, put_directory_header};
 use disk::{
-    Anode, AnodeHeader, AnodeNo, BlockNo, Refusal, Root, no_anode, number, put_anode,
-    put_anode_header, put_root, put_slot,
+    Anode, AnodeHeader, AnodeNo, BlockNo, Refusal, Root, no_anode, put_anode, put_anode_header,
+    put_root, put_slot,
 };
 use endian::{clear, write32};
 use header::{disk_size, wrong_size};
@@ -228,14 +229,14 @@ pub fn format(
     minute: u16,
     tick: u16,
     protection: u16,
-) -> u32
-    ensures { left result image.new ≡ format_outcome image.old last anode_blocks name.now day minute tick protection }
+) -> Result<(), Refusal>
+    ensures { left (answer_of result) image.new ≡ format_outcome image.old last anode_blocks name.now day minute tick protection }
 {
     if wrong_size(image) {
-        return number(Refusal::ImageSize);
+        return Err(Refusal::ImageSize);
     }
     if wrong_format(image, last, anode_blocks, name) {
-        return number(Refusal::BadArgument);
+        return Err(Refusal::BadArgument);
     }
     make(
         image,
@@ -247,5 +248,5 @@ pub fn format(
         tick,
         protection,
     );
-    0
+    Ok(())
 }

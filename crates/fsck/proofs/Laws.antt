@@ -1,15 +1,17 @@
 -- The check's answer and the tables that it leaves, from the answers of its parts.
+use Rattle.std.specs.Prelude.{Result, Ok, Err}
+use Rattle.std.specs.Result.{is_err}
 use Prim.Native.Nat.{ℕ, ◌≤◌}
 use mathlib.Core.Path.{◌≡◌, refl, sym, ap, ◌∙◌}
 use mathlib.Core.Logic.{inl, inr}
-use mathlib.Core.Bool.{true, false}
+use mathlib.Core.Bool.{true, false, false≢true}
 use mathlib.Core.List.{List, [], ◌++◌}
 use native.Mathlib.Omega.{arith}
 use lib.ListN.{length, drop, replicate}
 use lib.Dec.{ltb}
 use borrow.Author.Tests.{le-leb, lt-leb, ltb-false}
 use Rattle.disk.specs.declared.Refusal.{Refusal}
-use Rattle.disk.specs.Refusals.{number_of}
+use Rattle.disk.specs.Refusals.{number_of, answer_of}
 use Rattle.disk.proofs.Laws.{number_some}
 use Rattle.rules.specs.Counting.{◌if◌else◌}
 use Rattle.rules.specs.Anodes.{Anodes, limit, anodes_of}
@@ -23,16 +25,11 @@ use Rattle.laws.specs.Damage.{NoneOr, if_number, damage_range, wider}
 use Rattle.tables.specs.Held.{zeroed_first}
 use Rattle.tables.proofs.Laws.{zeroed_past}
 use Rattle.laws.specs.Chains.{HeadTable}
-use Rattle.tree.specs.Tree.{tree_number, Counts, Queued}
+use Rattle.tree.specs.Tree.{Counts, Queued}
 use Rattle.walk_steps.specs.Steps.{queue_of}
-use Rattle.tree.specs.declared.TreeRead.{TreeRead}
-use Rattle.tree.specs.declared.TreeRead.TheVariants.{Counted, Fault}
+use Rattle.tree.specs.declared.Counted.{Counted}
 use Rattle.fsck.specs.declared.Tally.{Tally}
-use Rattle.fsck.specs.declared.Checked.{Checked}
-use Rattle.fsck.specs.declared.Checked.TheVariants.{Accepted, Refused}
-use Rattle.fsck.specs.declared.Test.{Test}
-use Rattle.fsck.specs.declared.Test.TheVariants.{Passed, Failed}
-use Rattle.fsck.specs.Answers.{checked_number, Headed, HeaderTested, SpaceTested, Filled, PastKept, TablesAfter, TablesLeft}
+use Rattle.fsck.specs.Answers.{Headed, HeaderTested, SpaceTested, Filled, PastKept, TablesAfter, TablesLeft}
 use Rattle.laws.specs.OwnerTable.{blocks_past, heads_past}
 
 -- ---- 1 to 4
@@ -67,8 +64,8 @@ module _ (img : List ℕ) (b a : ℕ) where
               answered = rw (size, tables, type, t);
             }
 
-  pub headed : (t : Test) → t ≡ Passed → HeaderTested t img b a → Headed img b a
-  headed t is e = rw is at e
+  pub headed : (t : Result (Unit {0}) Refusal) (u : Unit {0}) → t ≡ Ok u → HeaderTested t img b a → Headed img b a
+  headed t u is e = rw is at e
 
 -- ---- 6 to 17
 
@@ -81,24 +78,24 @@ module _ (img : List ℕ) (s : Anodes) where
   filled-kept : (b₀ a₀ b a : List ℕ) → Filled img s b₀ a₀ b a → PastKept img b₀ a₀ b a
   filled-kept b₀ a₀ b a f = record { blocks-kept = blocks_past img s b b₀ f.blocks_shown; anodes_kept = heads_past s a a₀ f.anodes_shown }
 
-  module _ (b₀ a₀ b a : List ℕ) (t : Test) (left : TablesAfter t img s b₀ a₀ b a) where
-    pub all_heads : t ≡ Passed → (s₁ : Anodes) → s₁ ≡ s → HeadTable a s₁
-    all_heads is s₁ same = rw same (rw is at left).1
+  module _ (b₀ a₀ b a : List ℕ) (t : Result (Unit {0}) Refusal) (left : TablesAfter t img s b₀ a₀ b a) where
+    pub all_heads : (u : Unit {0}) → t ≡ Ok u → (s₁ : Anodes) → s₁ ≡ s → HeadTable a s₁
+    all_heads u is s₁ same = rw same (rw is at left).1
 
     module _ (e : SpaceTested t img s) where
-      pub all_failed : (r : Refusal) → t ≡ Failed r → (number_of r ≡ damage_in img s) × PastKept img b₀ a₀ b a
+      pub all_failed : (r : Refusal) → t ≡ Err r → (number_of r ≡ damage_in img s) × PastKept img b₀ a₀ b a
       all_failed r is = (sym (rw is at e), rw is at left)
 
-      module _ (is : t ≡ Passed) (s₁ : Anodes) (same : s₁ ≡ s) (w : TreeRead) (n : tree_number w ≡ tree_fault img s₁) where
-        damaged : damage_in img s ≡ tree_number w
+      module _ (u : Unit {0}) (is : t ≡ Ok u) (s₁ : Anodes) (same : s₁ ≡ s) (w : Result Counted Refusal) (n : answer_of w ≡ tree_fault img s₁) where
+        damaged : damage_in img s ≡ answer_of w
         damaged = rw is at e ∙ sym (rw same at n)
 
-        pub all_fault : (r : Refusal) → w ≡ Fault r → (number_of r ≡ damage_in img s) × PastKept img b₀ a₀ b a
+        pub all_fault : (r : Refusal) → w ≡ Err r → (number_of r ≡ damage_in img s) × PastKept img b₀ a₀ b a
         all_fault r fault = (sym (rw fault at damaged), filled-kept b₀ a₀ b a (rw is at left).0)
 
-        pub all-counted : (queue parents : List ℕ) → Counts w img s₁ → Queued w img s₁ queue parents → (files dirs : ℕ) → w ≡ Counted files dirs
-            → (0 ≡ damage_in img s) × ((files ≡ file_count img s) × (dirs ≡ dir_count img s)) × Filled img s b₀ a₀ b a × (queue_of queue parents dirs ≡ reached_dirs img s)
-        all-counted queue parents k q files dirs counted =
+        pub all-counted : (queue parents : List ℕ) → Counts w img s₁ → Queued w img s₁ queue parents → (found : Counted) → w ≡ Ok found
+            → (0 ≡ damage_in img s) × ((found.files ≡ file_count img s) × (found.dirs ≡ dir_count img s)) × Filled img s b₀ a₀ b a × (queue_of queue parents found.dirs ≡ reached_dirs img s)
+        all-counted queue parents k q found counted =
             (sym (rw counted at damaged), rw (counted, same) at k, (rw is at left).0, rw (counted, same) at q)
 
 -- ---- 5
@@ -131,15 +128,24 @@ once n t₀ t₁ t₂ shown t₃ z k e =
 
 -- ---- the outcome
 
+-- a result is a refusal or an answer
+pub refused_is : (x : Result Tally Refusal) → is_err x ≡ true → (r : Refusal) × (x ≡ Err r)
+refused_is (Ok t) e = absurd (false≢true e)
+refused_is (Err r) e = (r, refl)
+
+pub accepted_is : (x : Result Tally Refusal) → is_err x ≡ false → (t : Tally) × (x ≡ Ok t)
+accepted_is (Ok t) e = (t, refl)
+accepted_is (Err r) e = absurd (false≢true (sym e))
+
 -- what is known once 5 to 17 are tried: what 1 to 4 said, both tables as they were zeroed before, the answer, and both tables as they are left
-pub record Examined (img b₀ a₀ : List ℕ) (n : ℕ) (b₂ a₂ : List ℕ) (x : Checked) : Type 0 where
+pub record Examined (img b₀ a₀ : List ℕ) (n : ℕ) (b₂ a₂ : List ℕ) (x : Result Tally Refusal) : Type 0 where
   pub size : n ≡ disk_size img
   pub header : Headed img (length b₀) (length a₀)
   pub b₁ : List ℕ
   pub a₁ : List ℕ
   pub blocks-zeroed : b₁ ≡ zeroed_first n b₀
   pub anodes_zeroed : a₁ ≡ zeroed_first limit a₀
-  pub answer : checked_number x ≡ (5 if wrong_slots img else damage_in img (anodes_of img))
+  pub answer : answer_of x ≡ (5 if wrong_slots img else damage_in img (anodes_of img))
   pub left : TablesLeft x img (anodes_of img) b₁ a₁ b₂ a₂
 
 late_range : (img : List ℕ) → NoneOr 5 17 (5 if wrong_slots img else damage_in img (anodes_of img))
@@ -154,13 +160,13 @@ module _ (img b₀ a₀ : List ℕ) where
   outcome k b a e p q = rw (e, p, q)
 
   -- an accepted image has at most 65,535 blocks
-  pub outcome_size : (x : Checked) (t : Tally) → x ≡ Accepted t → (b a : List ℕ) → outcome_of (checked_number x) img b a [] [] ≡ check_outcome img b₀ a₀ → disk_size img ≤ 65535
+  pub outcome_size : (x : Result Tally Refusal) (t : Tally) → x ≡ Ok t → (b a : List ℕ) → outcome_of (answer_of x) img b a [] [] ≡ check_outcome img b₀ a₀ → disk_size img ≤ 65535
   unfolding check_outcome settled
   outcome_size x t is b a e =
       let z : 0 ≡ check_answer img (length b₀) (length a₀) = ap (λ (o : Outcome). o.answer) (rw is at e) in
       (size_bounds img (passed_of img (length b₀) (length a₀) (sym z)).size_right).1
 
-  pub outcome_header : (t : Test) (r : Refusal) → t ≡ Failed r → HeaderTested t img (length b₀) (length a₀)
+  pub outcome_header : (t : Result (Unit {0}) Refusal) (r : Refusal) → t ≡ Err r → HeaderTested t img (length b₀) (length a₀)
       → outcome_of (number_of r) img b₀ a₀ [] [] ≡ check_outcome img b₀ a₀
   unfolding blocks_left anodes_left
   outcome_header t r is e =
@@ -168,8 +174,8 @@ module _ (img b₀ a₀ : List ℕ) where
       outcome (number_of r) b₀ a₀ n.0
       (sym (left_early (disk_size img) _ b₀ (number_of r) (number_some r) n.1)) (sym (left_early limit _ a₀ (number_of r) (number_some r) n.1))
 
-  module _ {n : ℕ} {b₂ a₂ : List ℕ} {x : Checked} (w : Examined img b₀ a₀ n b₂ a₂ x) where
-    pub outcome-accepted : (t : Tally) → x ≡ Accepted t → outcome_of (checked_number x) img b₂ a₂ [] [] ≡ check_outcome img b₀ a₀
+  module _ {n : ℕ} {b₂ a₂ : List ℕ} {x : Result Tally Refusal} (w : Examined img b₀ a₀ n b₂ a₂ x) where
+    pub outcome-accepted : (t : Tally) → x ≡ Ok t → outcome_of (answer_of x) img b₂ a₂ [] [] ≡ check_outcome img b₀ a₀
     unfolding blocks_left anodes_left
     outcome-accepted t is =
         let f : Filled img (anodes_of img) w.b₁ w.a₁ b₂ a₂ = rw is at w.left in
@@ -178,8 +184,8 @@ module _ (img b₀ a₀ : List ℕ) where
         (once (disk_size img) b₀ w.b₁ w.b₁ (block_table img (anodes_of img)) b₂ (rw w.size at w.blocks-zeroed) refl f.blocks_shown ∙ sym (left_shown (disk_size img) (block_table img (anodes_of img)) b₀))
         (once limit a₀ w.a₁ w.a₁ (anode_table (anodes_of img)) a₂ w.anodes_zeroed refl f.anodes_shown ∙ sym (left_shown limit (anode_table (anodes_of img)) a₀)))
 
-    pub outcome_refused : (r : Refusal) → x ≡ Refused r → (b₃ a₃ : List ℕ) → b₃ ≡ zeroed_first n b₂ → a₃ ≡ zeroed_first limit a₂
-        → outcome_of (checked_number x) img b₃ a₃ [] [] ≡ check_outcome img b₀ a₀
+    pub outcome_refused : (r : Refusal) → x ≡ Err r → (b₃ a₃ : List ℕ) → b₃ ≡ zeroed_first n b₂ → a₃ ≡ zeroed_first limit a₂
+        → outcome_of (answer_of x) img b₃ a₃ [] [] ≡ check_outcome img b₀ a₀
     unfolding blocks_left anodes_left
     outcome_refused r is b₃ a₃ wb wa =
         let k : PastKept img w.b₁ w.a₁ b₂ a₂ = rw is at w.left in

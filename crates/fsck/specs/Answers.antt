@@ -1,5 +1,6 @@
--- The check's answer: the number and values of each case, what its parts leave in the tables, and what it loads.
-use Rattle.std.specs.Prelude.{ℕ, ◌≤◌, ◌≡◌, false, List, ◌++◌, length, drop}
+-- The check's answer: the values of an accepted image, what its parts leave in the tables, and what it loads.
+use Rattle.std.specs.Prelude.{ℕ, ◌≤◌, ◌≡◌, false, List, ◌++◌, length, drop, Result, Ok, Err}
+use Rattle.disk.specs.declared.Refusal.{Refusal}
 use Rattle.disk.specs.Refusals.{number_of}
 use Rattle.rules.specs.Counting.{◌if◌else◌}
 use Rattle.rules.specs.Anodes.{Anodes, limit, anodes_of}
@@ -12,20 +13,12 @@ use Rattle.tables.specs.Held.{ZeroBelow}
 use Rattle.anodes.specs.Loaded.{anodes_from, AnodeTables}
 use Rattle.laws.specs.Chains.{HeadTable}
 use Rattle.walk_steps.specs.Steps.{queue_of}
-use Rattle.fsck.specs.declared.Checked.{Checked}
-use Rattle.fsck.specs.declared.Checked.TheVariants.{Accepted, Refused}
-use Rattle.fsck.specs.declared.Test.{Test}
-use Rattle.fsck.specs.declared.Test.TheVariants.{Passed, Failed}
-
--- 0 for an accepted image, else the refusal's number
-abbrev pub checked_number : Checked → ℕ
-checked_number (Accepted t) = 0
-checked_number (Refused r) = number_of r
+use Rattle.fsck.specs.declared.Tally.{Tally}
 
 -- an accepted image's free blocks, files, and directories with the root
-abbrev pub Tallied : Checked → List ℕ → Anodes → Type 0
-Tallied (Accepted t) img s = (t.free ≡ block_count s 1) × (t.files ≡ file_count img s) × (t.dirs ≡ dir_count img s)
-Tallied (Refused r) img s = Unit {0}
+abbrev pub Tallied : Result Tally Refusal → List ℕ → Anodes → Type 0
+Tallied (Ok t) img s = (t.free ≡ block_count s 1) × (t.files ≡ file_count img s) × (t.dirs ≡ dir_count img s)
+Tallied (Err r) img s = Unit {0}
 
 -- tables of so many entries have one for each block and one for each anode
 pub record TableRoom (img : List ℕ) (blocks anodes : ℕ) : Type 0 where
@@ -39,14 +32,14 @@ pub record Headed (img : List ℕ) (blocks anodes : ℕ) : Type 0 where
   pub answered : check_answer img blocks anodes ≡ (5 if wrong_slots img else damage_in img (anodes_of img))
 
 -- what 1 to 4 say, which touch no table
-abbrev pub HeaderTested : Test → List ℕ → ℕ → ℕ → Type 0
-HeaderTested Passed img blocks anodes = Headed img blocks anodes
-HeaderTested (Failed r) img blocks anodes = (check_answer img blocks anodes ≡ number_of r) × (number_of r ≤ 4)
+abbrev pub HeaderTested : Result (Unit {0}) Refusal → List ℕ → ℕ → ℕ → Type 0
+HeaderTested (Ok u) img blocks anodes = Headed img blocks anodes
+HeaderTested (Err r) img blocks anodes = (check_answer img blocks anodes ≡ number_of r) × (number_of r ≤ 4)
 
 -- what 6 to 11 say: the walk's answer is what is left, or the answer is the refusal's number
-abbrev pub SpaceTested : Test → List ℕ → Anodes → Type 0
-SpaceTested Passed img s = damage_in img s ≡ tree_fault img s
-SpaceTested (Failed r) img s = damage_in img s ≡ number_of r
+abbrev pub SpaceTested : Result (Unit {0}) Refusal → List ℕ → Anodes → Type 0
+SpaceTested (Ok u) img s = damage_in img s ≡ tree_fault img s
+SpaceTested (Err r) img s = damage_in img s ≡ number_of r
 
 -- both tables show the image; entries past the ranges are kept
 pub record Filled (img : List ℕ) (s : Anodes) (blocks₀ anodes₀ blocks anodes : List ℕ) : Type 0 where
@@ -59,14 +52,14 @@ pub record PastKept (img : List ℕ) (blocks₀ anodes₀ blocks anodes : List �
   pub anodes_kept : drop limit anodes ≡ drop limit anodes₀
 
 -- the tables after the tests of 6 to 11
-abbrev pub TablesAfter : Test → List ℕ → Anodes → List ℕ → List ℕ → List ℕ → List ℕ → Type 0
-TablesAfter Passed img s b₀ a₀ b a = Filled img s b₀ a₀ b a × HeadTable a s
-TablesAfter (Failed r) img s b₀ a₀ b a = PastKept img b₀ a₀ b a
+abbrev pub TablesAfter : Result (Unit {0}) Refusal → List ℕ → Anodes → List ℕ → List ℕ → List ℕ → List ℕ → Type 0
+TablesAfter (Ok u) img s b₀ a₀ b a = Filled img s b₀ a₀ b a × HeadTable a s
+TablesAfter (Err r) img s b₀ a₀ b a = PastKept img b₀ a₀ b a
 
 -- the tables after the tests of 6 to 16
-abbrev pub TablesLeft : Checked → List ℕ → Anodes → List ℕ → List ℕ → List ℕ → List ℕ → Type 0
-TablesLeft (Accepted t) img s b₀ a₀ b a = Filled img s b₀ a₀ b a
-TablesLeft (Refused r) img s b₀ a₀ b a = PastKept img b₀ a₀ b a
+abbrev pub TablesLeft : Result Tally Refusal → List ℕ → Anodes → List ℕ → List ℕ → List ℕ → List ℕ → Type 0
+TablesLeft (Ok t) img s b₀ a₀ b a = Filled img s b₀ a₀ b a
+TablesLeft (Err r) img s b₀ a₀ b a = PastKept img b₀ a₀ b a
 
 -- the block table and the anode table have room, and are zero in their ranges
 pub record Zeroed (img blocks anodes : List ℕ) : Type 0 where
@@ -80,9 +73,9 @@ Sized counts firsts nexts queue parents =
     AnodeTables counts firsts nexts × (length queue ≡ limit) × (length parents ≡ limit)
 
 -- an accepted image's anodes in three tables, its reached directories and their parents in two
-abbrev pub Opened : Checked → List ℕ → List ℕ → List ℕ → List ℕ → List ℕ → List ℕ → Type 0
-Opened (Accepted t) img counts firsts nexts queue parents =
+abbrev pub Opened : Result Tally Refusal → List ℕ → List ℕ → List ℕ → List ℕ → List ℕ → List ℕ → Type 0
+Opened (Ok t) img counts firsts nexts queue parents =
     (anodes_from counts firsts nexts ≡ anodes_of img)
     × (queue_of queue parents t.dirs ≡ reached_dirs img (anodes_of img))
     × Sized counts firsts nexts queue parents
-Opened (Refused r) img counts firsts nexts queue parents = Unit {0}
+Opened (Err r) img counts firsts nexts queue parents = Unit {0}

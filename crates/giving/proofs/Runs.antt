@@ -10,6 +10,7 @@ use lib.Dec.{leb, leb→le}
 use lib.ListN.{length, get_or, set, take}
 use lib.Seq.{take-suc-set}
 use borrow.Author.Tests.{eq-eqb, ne_eqb}
+use Rattle.std.specs.Prelude.{Ok, Err}
 use Rattle.disk.specs.declared.Refusal.{Refusal}
 use Rattle.disk.specs.Refusals.{number_of}
 use Rattle.rules.specs.Counting.{occurrences, last_of}
@@ -29,37 +30,15 @@ use Rattle.laws.specs.GiveRuns.{runs_moved}
 use Rattle.laws.specs.ChainGone.{lower_most, head_counted}
 use Rattle.laws.specs.SideEnds.{side-kept}
 use Rattle.anodes.specs.Loaded.{anodes_from}
-use Rattle.placing.specs.declared.Moves.{Moves}
-use Rattle.placing.specs.declared.Moves.TheVariants.{Done, Stopped}
-use Rattle.placing.specs.Steps.{EndsIn}
 use Rattle.placing.specs.States.{Ready}
 use Rattle.giving_runs.specs.declared.Going.{Going}
-use Rattle.giving_runs.specs.declared.Turn.{Turn}
-use Rattle.giving_runs.specs.declared.Turn.TheVariants.{Goes, Stops}
 use Rattle.giving_runs.specs.Runs.{Carries, Turns}
 
 -- ---- the chain in a table
 
-module _ (next : ℕ → ℕ) where
-  -- of no more anodes there is nothing to list
-  pub listed-none : (at : ℕ) → chain_of next 0 at ≡ []
-  unfolding chain_of
-  listed-none at = refl
-
-  -- and nothing behind the end
-  pub listed-end : (m : ℕ) → chain_of next m 0 ≡ []
-  unfolding chain_of
-  listed-end zero = refl
-  listed-end (suc m) = refl
-
-  chain-cons : (m j at : ℕ) → m ≡ j + 1 → at ≢ 0 → chain_of next m at ≡ at ∷ chain_of next j (next at)
-  unfolding chain_of
-  chain-cons m j zero e h = absurd (h refl)
-  chain-cons m j (suc at) e h = rw (e, add-one j)
-
-  -- one more anode is listed
-  pub listed_more : (l : List ℕ) (n m j at : ℕ) → n < length l → m ≡ j + 1 → at ≢ 0 → take (n + 1) (set l n at) ++ chain_of next j (next at) ≡ take n l ++ chain_of next m at
-  listed_more l n m j at h e a0 = rw (add-one n, take-suc-set l n at h, chain-cons m j at e a0) (append_assoc (take n l) (at ∷ []) (chain_of next j (next at)))
+-- one more anode is listed
+pub listed_more : (l : List ℕ) (n a : ℕ) (rest : List ℕ) → n < length l → take (n + 1) (set l n a) ++ rest ≡ take n l ++ (a ∷ rest)
+listed_more l n a rest h = rw (add-one n, take-suc-set l n a h) (append_assoc (take n l) (a ∷ []) rest)
 
 -- ---- the runs up to a turn
 
@@ -105,31 +84,25 @@ module _ {growth : Growth} {last h : ℕ} {chain : List ℕ} {whole : Plan Slott
   unfolding after
   go_done e = (r.done, sym r.same ∙ ap (after r.done) (ap (λ (k : ℕ). give_runs 3444 growth last r.fuel k h s) e ∙ runs_none growth last r.fuel h s) ∙ ap (planned s) (append-nil r.done))
 
-  module _ (some : 0 < g.left) (t : Slotted) (turn : Turn) (turns : Turns turn growth last h chain g.left s t) where
+  module _ (some : 0 < g.left) (t : Slotted) where
     more : r.fuel ≡ suc (r.fuel - 1)
     more = omega (arith, some, r.enough)
 
     -- a turn is refused
-    pub go_stop : (why : Refusal) → turn ≡ Stops why → whole ≡ refused (number_of why)
+    pub go_stop : (why : Refusal) → Turns (Err why) growth last h chain g.left s t → whole ≡ refused (number_of why)
     unfolding after
-    go_stop why e =
-        let w : Turns (Stops why) growth last h chain g.left s t = rw e at turns in
-        sym r.same ∙ ap (after r.done) (ap (λ (f : ℕ). give_runs 3444 growth last f g.left h s) more ∙ w (r.fuel - 1))
+    go_stop why w = sym r.same ∙ ap (after r.done) (ap (λ (f : ℕ). give_runs 3444 growth last f g.left h s) more ∙ w (r.fuel - 1))
 
     -- a turn is done
-    pub go_next : (g' : Going) → turn ≡ Goes g' → (g'.left < g.left) × RunsGo growth last h chain whole g' t
-    go_next g' e =
-        let w : Turns (Goes g') growth last h chain g.left s t = rw e at turns in (
-          w.0,
-          record {
-            carries = w.1;
-            fuel = r.fuel - 1;
-            enough = omega (arith, w.0, r.enough);
-            done = r.done ++ w.2.0;
-            same = sym (after_both r.done w.2.0 (give_runs 3444 growth last (r.fuel - 1) g'.left h t))
-                ∙ ap (after r.done) (sym (ap (λ (f : ℕ). give_runs 3444 growth last f g.left h s) more ∙ w.2.1 (r.fuel - 1))) ∙ r.same;
-          },
-        )
+    pub go_next : (g' : Going) → Turns (Ok g') growth last h chain g.left s t → RunsGo growth last h chain whole g' t
+    go_next g' w = record {
+      carries = w.1;
+      fuel = r.fuel - 1;
+      enough = omega (arith, w.0, r.enough);
+      done = r.done ++ w.2.0;
+      same = sym (after_both r.done w.2.0 (give_runs 3444 growth last (r.fuel - 1) g'.left h t))
+          ∙ ap (after r.done) (sym (ap (λ (f : ℕ). give_runs 3444 growth last f g.left h s) more ∙ w.2.1 (r.fuel - 1))) ∙ r.same;
+    }
 
 -- ---- the end of a removal
 
@@ -222,13 +195,3 @@ module _ (last : ℕ) (s : Anodes) (slots : ℕ → ℕ) (h : ℕ) (ready : Read
       pub all_done : (t r : Slotted) (ys zs : List ℕ) → give_blocks 3444 growth last k h (slotted s slots) ≡ planned t ys → head_back 3444 last h t ≡ planned r zs → give_all 3444 growth last h (slotted s slots) ≡ planned r (ys ++ zs)
       unfolding give_all ◌and_then◌ after
       all_done t r ys zs e b = rw (before_is, e, ◌and_then◌, b, after)
-
--- ---- what a run of steps that is done, or stopped, has come to
-
--- done, it leaves the plan's state
-pub ended : (moves : Moves) (t : Slotted) (p : Plan Slotted) → moves ≡ Done → EndsIn moves t p → (ys : List ℕ) × (p ≡ planned t ys)
-ended moves t p e i = let w : EndsIn Done t p = rw e at i in w
-
--- stopped, the plan is refused
-pub ended_stop : (moves : Moves) (t : Slotted) (p : Plan Slotted) (why : Refusal) → moves ≡ Stopped why → EndsIn moves t p → p ≡ refused (number_of why)
-ended_stop moves t p why e i = let w : EndsIn (Stopped why) t p = rw e at i in w

@@ -9,11 +9,12 @@ ghost use Rattle.anodes.specs.Loaded.{anodes_from, table_from, AnodeTables};
 ghost use Rattle.placing.specs.Steps.{EndsIn};
 ghost use Rattle.placing.specs.States.{Ready};
 ghost use Rattle.growing.specs.Grown.{growth_if};
-ghost use Rattle.giving.specs.Steps.{LinkedFrom, stopped_turn};
+ghost use Rattle.giving.specs.Steps.{LinkedFrom};
 
-use disk::{AnodeNo, BlockNo};
-use giving_runs::{Going, Turn, give_turn, lower_run};
-use placing::{Moves, join_with};
+use disk::{AnodeNo, BlockNo, Refusal};
+use giving_runs::{Going, give_turn, lower_run};
+use links::Links;
+use placing::join_with;
 use searches::{last_anode, side_of};
 use tables::{copy_entries, entry, set_entry};
 
@@ -33,8 +34,8 @@ pub fn drop_chain(head: AnodeNo, counts: &mut [u16], firsts: &mut [u16], nexts: 
     ensures { anodes_from counts.new firsts.new nexts.new ≡ dropped 3444 (anodes_from counts.old firsts.old nexts.old) head.0 }
 {
     let mut at = head.0 as usize;
-    let mut fuel: usize = 3444;
-    while 0 < fuel {
+    // By hand, since it zeroes the links that it follows.
+    for _ in 0..3444usize {
         if at == 0 {
             return;
         }
@@ -43,7 +44,6 @@ pub fn drop_chain(head: AnodeNo, counts: &mut [u16], firsts: &mut [u16], nexts: 
         set_entry(firsts, at, 0);
         set_entry(nexts, at, 0);
         at = next;
-        fuel -= 1;
     }
 }
 
@@ -52,27 +52,12 @@ fn list_chain(nexts: &[u16], head: AnodeNo, chain: &mut [u16]) -> usize
     requires { length chain.old ≡ 3444 }
     ensures { (result ≤ 3444) × (take result chain.new ≡ chain_of (λ a. get_or nexts.now a 0) 3444 head.0) }
 {
-    let mut at = head;
-    let mut n: usize = 0;
-    while n < 3444 {
-        if at.0 == 0 {
-            return n;
-        }
-        set_entry(chain, n, at.0);
-        at = AnodeNo(entry(nexts, at.0 as usize));
+    let mut n = 0;
+    for a in Links::along(nexts, head) {
+        set_entry(chain, n, a.0);
         n += 1;
     }
     n
-}
-
-// The answer of a run of turns that a refused one stops.
-fn stopped_turn(turn: Turn) -> Moves
-    ensures { result ≡ stopped_turn turn }
-{
-    match turn {
-        Turn::Goes(_) => Moves::Done,
-        Turn::Stops(why) => Moves::Stopped(why),
-    }
 }
 
 // Gives back the last `k` blocks of the chain of `head`, run by run; `last`: last reserved, `growing`: whether slots may grow for them. The chain's anodes are noted once, and the ends of both sides of the free list are carried.
@@ -85,7 +70,7 @@ pub fn give_blocks(
     counts: &mut [u16],
     firsts: &mut [u16],
     nexts: &mut [u16],
-) -> Moves
+) -> Result<(), Refusal>
     requires anode_tables { AnodeTables counts.old firsts.old nexts.old × (length slots.old ≡ 42) }
     requires ready { Ready last.0 (table_from counts.old firsts.old nexts.old slots.old) head.0 }
     requires k_bound { k ≤ block_count (anodes_from counts.old firsts.old nexts.old) head.0 }
@@ -101,14 +86,11 @@ pub fn give_blocks(
         upper,
         lower,
     };
+    // a while loop, for a turn gives back a whole run
     while 0 < g.left {
-        let turn = give_turn(growing, slots, last, head, &chain, g, counts, firsts, nexts);
-        let Turn::Goes(rest) = turn else {
-            return stopped_turn(turn);
-        };
-        g = rest;
+        g = give_turn(growing, slots, last, head, &chain, g, counts, firsts, nexts)?;
     }
-    Moves::Done
+    Ok(())
 }
 
 // The end of a removal: zeroes the anodes still in the chain of `head`; the run that the head still has, if any, goes back with the head itself.
@@ -143,7 +125,7 @@ pub fn give_all(
     counts: &mut [u16],
     firsts: &mut [u16],
     nexts: &mut [u16],
-) -> Moves
+) -> Result<(), Refusal>
     requires anode_tables { AnodeTables counts.old firsts.old nexts.old × (length slots.old ≡ 42) }
     requires ready { Ready last.0 (table_from counts.old firsts.old nexts.old slots.old) head.0 }
     requires have_value { have ≡ block_count (anodes_from counts.old firsts.old nexts.old) head.0 }
@@ -152,10 +134,7 @@ pub fn give_all(
     let count = entry(counts, head.0 as usize);
     let first = BlockNo(entry(firsts, head.0 as usize));
     let k = have - lower_run(last, count, first) as u64;
-    let moves = give_blocks(growing, slots, last, k, head, counts, firsts, nexts);
-    let Moves::Done = moves else {
-        return moves;
-    };
+    give_blocks(growing, slots, last, k, head, counts, firsts, nexts)?;
     head_back(last, head, counts, firsts, nexts);
-    Moves::Done
+    Ok(())
 }

@@ -1,5 +1,5 @@
 -- A block that goes back to the carried end of its side, and what is carried then.
-use Prim.Native.Nat.{ℕ, ◌+◌, ◌-◌, ◌≤◌, ◌<◌}
+use Prim.Native.Nat.{ℕ, ◌+◌, ◌≤◌, ◌<◌}
 use mathlib.Core.Path.{◌≡◌, refl, sym, ap, ◌∙◌}
 use mathlib.Core.Logic.{◌≢◌, inl, inr}
 use mathlib.Core.Bool.{cond}
@@ -7,6 +7,7 @@ use mathlib.Core.List.{List, [], ◌∷◌, ◌++◌}
 use native.Mathlib.Omega.{arith}
 use lib.Dec.{ltb}
 use borrow.Author.Tests.{lt-ltb, le-ltb}
+use Rattle.std.specs.Prelude.{Result, Ok, Err}
 use Rattle.disk.specs.declared.BlockNo.{BlockNo}
 use Rattle.disk.specs.declared.Refusal.{Refusal}
 use Rattle.disk.specs.Refusals.{number_of}
@@ -26,18 +27,12 @@ use Rattle.laws.specs.Plans.{after_none, after_both, then_stop, afresh_fixed}
 use Rattle.laws.specs.Moves.{with_these, none_grows}
 use Rattle.laws.specs.Give.{side_above, side-up_to, side_of_head, side-end_used, released}
 use Rattle.laws.specs.FixedSlots.{none_got, release_slots}
-use Rattle.laws.specs.RefusedSteps.{join-28}
 use Rattle.laws.specs.SideEnds.{CameTo, came_join, came_end, came_other}
 use Rattle.laws.specs.Carried.{end_after}
 use Rattle.safe_rules.specs.SafePlans.{given_back}
-use Rattle.placing.specs.declared.Step.{Step}
-use Rattle.placing.specs.declared.Step.TheVariants.{Moved, Refused}
-use Rattle.placing.specs.declared.Moves.TheVariants.{Done}
 use Rattle.placing.specs.Steps.{step_plan, EndsIn}
 use Rattle.giving_runs.proofs.Turning.{end_is}
 use Rattle.giving_back.specs.declared.Ends.{Ends}
-use Rattle.giving_back.specs.declared.Back.{Back}
-use Rattle.giving_back.specs.declared.Back.TheVariants.{Goes, Stops}
 use Rattle.giving_back.specs.Backs.{InLimbo, EndsOf, Backs}
 
 -- ---- one block
@@ -67,17 +62,15 @@ module _ (last y : ℕ) (ys : List ℕ) (s : Anodes) (slots : ℕ → ℕ) (ends
   unfolding release
   join_is = afresh_fixed (λ ex t. join limit (side_end limit last t y) 1 y ex t) (slotted s slots) ∙ ap (λ (e : ℕ). at_slots slots (join limit e 1 y (exists_by slots) s)) (sym end-found)
 
-  module _ (step : Step) (t : Anodes) (plan : step_plan step 1 t ≡ join limit z 1 y (exists_by slots) s) where
+  module _ (step : Result BlockNo Refusal) (t : Anodes) (plan : step_plan step 1 t ≡ join limit z 1 y (exists_by slots) s) where
     -- refused, so is the give-back
-    pub back_stops : (why : Refusal) → step ≡ Refused why → release limit no_growth last 1 y (slotted s slots) ≡ refused 28
+    pub back_stops : (why : Refusal) → step ≡ Err why → release limit no_growth last 1 y (slotted s slots) ≡ refused (number_of why)
     unfolding at_slots
-    back_stops why e =
-        let q = sym plan ∙ ap (λ (i : Step). step_plan i 1 t) e in
-        join_is ∙ ap (at_slots slots) q ∙ ap (λ (j : ℕ). refused j) ((join-28 limit (exists_by slots) s z 1 y (number_of why)).0 q).0
+    back_stops why e = join_is ∙ ap (at_slots slots) (sym plan ∙ ap (λ (i : Result BlockNo Refusal). step_plan i 1 t) e)
 
-    module _ (b : BlockNo) (done : step ≡ Moved b) where
+    module _ (b : BlockNo) (done : step ≡ Ok b) where
       joined : join limit z 1 y (exists_by slots) s ≡ planned t (run b.0 1)
-      joined = sym plan ∙ ap (λ (i : Step). step_plan i 1 t) done
+      joined = sym plan ∙ ap (λ (i : Result BlockNo Refusal). step_plan i 1 t) done
 
       came : CameTo limit s (side_end limit last s y) t
       came = rw (← end-found) (came_join s z 1 y t (run b.0 1) (exists_by slots) joined)
@@ -94,7 +87,7 @@ module _ (last y : ℕ) (ys : List ℕ) (s : Anodes) (slots : ℕ → ℕ) (ends
 
       -- done, with the ends of both sides then
       pub back-goes : (after : Ends) → after.upper.0 ≡ cond (ltb last y) (end_after (cut t.next) ends.upper.0) ends.upper.0 → after.lower.0 ≡ cond (ltb last y) ends.lower.0 (end_after (cut t.next) ends.lower.0) →
-          Backs (Goes after) last y (slotted s slots) (slotted t slots)
+          Backs (Ok after) last y (slotted s slots) (slotted t slots)
       unfolding at_slots
       back-goes after up low = ((run b.0 1, join_is ∙ ap (at_slots slots) joined), ends_then)
         where
@@ -149,11 +142,11 @@ module _ {last : ℕ} {zs : List ℕ} {start : Slotted} {y : ℕ} {ys : List ℕ
   unfolding given_back
   one-back = refl
 
-  module _ (back : Back) (t : Slotted) (w : Backs back last y s t) where
-    pub goes_next : (after' : Ends) → back ≡ Goes after' → GoesBack last zs start ys after' t
+  module _ (t : Slotted) where
+    pub goes_next : (after' : Ends) → Backs (Ok after') last y s t → GoesBack last zs start ys after' t
     unfolding ◌and_then◌
-    goes_next after' e =
-        let ((us, q), are) : Backs (Goes after') last y s t = rw e at w in
+    goes_next after' w =
+        let ((us, q), are) = w in
         record {
           limbo = limbo_next last y ys s t us g.limbo q;
           ends_of = are;
@@ -161,12 +154,11 @@ module _ {last : ℕ} {zs : List ℕ} {start : Slotted} {y : ℕ} {ys : List ℕ
           rest = g.rest ∙ ap (after g.gone) (one-back ∙ ap (λ (p : Plan Slotted). p and_then given_back last ys) q) ∙ after_both g.gone us (given_back last ys t);
         }
 
-    pub goes_stop : (why : Refusal) → back ≡ Stops why → given_back last zs start ≡ refused (number_of why)
+    pub goes_stop : (why : Refusal) → Backs (Err why) last y s t → given_back last zs start ≡ refused (number_of why)
     unfolding after
-    goes_stop why e =
-        let q : Backs (Stops why) last y s t = rw e at w in
+    goes_stop why q =
         g.rest ∙ ap (after g.gone) (one-back ∙ then_stop (release limit no_growth last 1 y s) (given_back last ys) (number_of why) q)
 
-pub goes-all : {last : ℕ} {zs : List ℕ} {start : Slotted} {ys : List ℕ} {ends : Ends} {s : Slotted} → GoesBack last zs start ys ends s → ys ≡ [] → EndsIn Done s (given_back last zs start)
+pub goes-all : {last : ℕ} {zs : List ℕ} {start : Slotted} {ys : List ℕ} {ends : Ends} {s : Slotted} → GoesBack last zs start ys ends s → ys ≡ [] → EndsIn (Ok tt) s (given_back last zs start)
 unfolding given_back after
 goes-all {last} {zs} {start} {ys} {ends} {s} g e = (g.gone ++ [], g.rest ∙ ap (λ (l : List ℕ). after g.gone (given_back last l s)) e)

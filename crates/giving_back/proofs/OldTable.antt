@@ -10,6 +10,7 @@ use lib.ListN.{get_or}
 use borrow.Author.Tests.{eqb-false, eq-eqb, ne_eqb}
 use Rattle.counting.specs.Laws.{neither}
 use Rattle.laws.specs.Tests.{same?}
+use Rattle.std.specs.Prelude.{Some, None}
 use Rattle.giving_back.specs.OldTable.{is_old, old_from, NoneOwned, NoneOld, NextOld}
 
 -- ---- whether a block is old
@@ -97,8 +98,8 @@ module _ (blocks : List ℕ) (h d : ℕ) where
       subst (λ (x : ℕ). Searched y₀ n x) i
       (search_on y₀ n (y + r) (search_past y₀ n y s r (omega (arith, l)) (λ x p q. o x p (omega (arith, q)))) (omega (arith, l)) (o (y + r) (omega arith) (omega arith)))
 
-  pub search-found : (y₀ n y : ℕ) → Searched y₀ n y → y < n → is_old h d (get_or blocks y 0) y ≡ true → NextOld blocks h d y₀ n y
-  search-found y₀ n y (a, b, e) l o = record { from = a; to = b; here = λ q. e ∙ old-here n y l o; none = λ q. absurd (omega (arith, q, l)) }
+  pub search-found : (y₀ n y : ℕ) → Searched y₀ n y → y < n → is_old h d (get_or blocks y 0) y ≡ true → NextOld blocks h d y₀ n (Some y)
+  search-found y₀ n y (a, b, e) l o = (a, l, e ∙ old-here n y l o)
 
-  pub search-none : (y₀ n y : ℕ) → Searched y₀ n y → n ≤ y → NextOld blocks h d y₀ n n
-  search-none y₀ n y (a, b, e) l = record { from = omega (arith, a, b); to = omega arith; here = λ q. absurd (omega (arith, q)); none = λ q. e ∙ old-end n y l }
+  pub search-none : (y₀ n y : ℕ) → Searched y₀ n y → n ≤ y → NextOld blocks h d y₀ n None
+  search-none y₀ n y (a, b, e) l = e ∙ old-end n y l

@@ -1,5 +1,6 @@
 -- What giving a block back asks, answers and carries.
-use Rattle.std.specs.Prelude.{ℕ, ◌≤◌, ◌<◌, ◌≡◌, ◌≢◌, List}
+use Rattle.std.specs.Prelude.{ℕ, ◌≤◌, ◌<◌, ◌≡◌, ◌≢◌, List, Result, Ok, Err}
+use Rattle.disk.specs.declared.Refusal.{Refusal}
 use Rattle.disk.specs.Refusals.{number_of}
 use Rattle.rules.specs.Counting.{occurrences, last_of}
 use Rattle.rules.specs.Anodes.{limit, exists_by}
@@ -9,11 +10,7 @@ use Rattle.rules.specs.Space.{release}
 use Rattle.laws.specs.Space.{Good}
 use Rattle.laws.specs.Moves.{with_these}
 use Rattle.laws.specs.Take.{StartOwned}
-use Rattle.placing.specs.declared.Moves.{Moves}
-use Rattle.placing.specs.declared.Moves.TheVariants.{Done, Stopped}
 use Rattle.giving_back.specs.declared.Ends.{Ends}
-use Rattle.giving_back.specs.declared.Back.{Back}
-use Rattle.giving_back.specs.declared.Back.TheVariants.{Goes, Stops}
 
 -- anodes and slots in good order, in which some blocks of the disk are in nobody's chain
 pub record InLimbo (last : ℕ) (ys : List ℕ) (s : Slotted) : Type 0 where
@@ -31,11 +28,6 @@ abbrev pub EndsOf : Ends → Slotted → Type 0
 EndsOf ends s = (ends.upper.0 ≡ last_of 1 (side limit s.anodes 1)) × (ends.lower.0 ≡ last_of 2 (side limit s.anodes 2))
 
 -- block y is given back and t is left, whose ends are known, or it is refused
-abbrev pub Backs : Back → ℕ → ℕ → Slotted → Slotted → Type 0
-Backs (Goes ends) last y s t = ((ys : List ℕ) × (release limit no_growth last 1 y s ≡ planned t ys)) × EndsOf ends t
-Backs (Stops why) last y s t = release limit no_growth last 1 y s ≡ refused (number_of why)
-
--- the answer of a run of blocks that a refused one stops
-abbrev pub stopped_back : Back → Moves
-stopped_back (Goes ends) = Done
-stopped_back (Stops why) = Stopped why
+abbrev pub Backs : Result Ends Refusal → ℕ → ℕ → Slotted → Slotted → Type 0
+Backs (Ok ends) last y s t = ((ys : List ℕ) × (release limit no_growth last 1 y s ≡ planned t ys)) × EndsOf ends t
+Backs (Err why) last y s t = release limit no_growth last 1 y s ≡ refused (number_of why)

@@ -1,5 +1,5 @@
 -- The old blocks of a safe change, told by the block table: those of a chain, the anode blocks, and one that moves.
-use Rattle.std.specs.Prelude.{ℕ, zero, suc, ◌+◌, ◌-◌, ◌≤◌, ◌<◌, ◌≡◌, ◌≢◌, Bool, false, cond, ◌||◌, List, [], ◌∷◌, ◌++◌, eqb, get_or}
+use Rattle.std.specs.Prelude.{ℕ, zero, suc, ◌+◌, ◌-◌, ◌≤◌, ◌<◌, ◌≡◌, ◌≢◌, Bool, false, cond, ◌||◌, List, [], ◌∷◌, ◌++◌, eqb, get_or, Option, Some, None}
 
 -- block y, with this entry in the block table, is of the chain of h, an anode block, or the block d
 unfoldable pub is_old : ℕ → ℕ → ℕ → ℕ → Bool
@@ -18,9 +18,7 @@ NoneOwned blocks h y end = (x : ℕ) → y ≤ x → x < end → (get_or blocks 
 abbrev pub NoneOld : List ℕ → ℕ → ℕ → ℕ → ℕ → Type 0
 NoneOld blocks h d y end = (x : ℕ) → y ≤ x → x < end → is_old h d (get_or blocks x 0) x ≡ false
 
--- r is the first old block from y on, or n where there is none below n
-pub record NextOld (blocks : List ℕ) (h d y n r : ℕ) : Type 0 where
-  pub from : y ≤ r
-  pub to : r ≤ n
-  pub here : r < n → old_from blocks h d (n - y) y ≡ r ∷ old_from blocks h d (n - (r + 1)) (r + 1)
-  pub none : n ≤ r → old_from blocks h d (n - y) y ≡ []
+-- the first old block from y on, below n, if there is one
+abbrev pub NextOld : List ℕ → ℕ → ℕ → ℕ → ℕ → Option ℕ → Type 0
+NextOld blocks h d y n (Some r) = (y ≤ r) × (r < n) × (old_from blocks h d (n - y) y ≡ r ∷ old_from blocks h d (n - (r + 1)) (r + 1))
+NextOld blocks h d y n None = old_from blocks h d (n - y) y ≡ []

@@ -8,11 +8,11 @@ ghost use Rattle.safe_rules.specs.SafePlans.{given_back};
 ghost use Rattle.anodes.specs.Loaded.{table_from, AnodeTables};
 ghost use Rattle.placing.specs.Steps.{EndsIn};
 ghost use Rattle.giving_back.specs.OldTable.{is_old, old_from, NoneOwned, NoneOld, NextOld};
-ghost use Rattle.giving_back.specs.Backs.{InLimbo, EndsOf, Backs, stopped_back};
+ghost use Rattle.giving_back.specs.Backs.{InLimbo, EndsOf, Backs};
 
 use disk::{AnodeNo, BlockNo, Refusal};
 use giving_runs::end_after;
-use placing::{Moves, Step, join};
+use placing::join;
 use searches::last_anode;
 use tables::entry;
 
@@ -21,13 +21,6 @@ use tables::entry;
 pub struct Ends {
     pub upper: AnodeNo,
     pub lower: AnodeNo,
-}
-
-// What giving one block back answers: the ends of both sides then, or the refusal.
-#[derive(Clone, Copy)]
-pub enum Back {
-    Goes(Ends),
-    Stops(Refusal),
 }
 
 // Which blocks are old: those of the chain of `head`, the anode blocks, and block `moved`.
@@ -41,10 +34,7 @@ pub struct Old {
 fn is_old(old: Old, owner: u16, y: u16) -> bool
     ensures { result ≡ is_old old.head.0 old.moved.0 owner y }
 {
-    if owner == old.head.0 {
-        return true;
-    }
-    if owner == 65534 {
+    if owner == old.head.0 || owner == 65534 {
         return true;
     }
     y == old.moved.0
@@ -60,6 +50,7 @@ fn none_owned(blocks: &[u16], head: u16, from: usize) -> bool
     if blocks.len() - 64 < from {
         return false;
     }
+    // The flat form, by index, is the one that is tested many at once.
     let mut any = false;
     for i in 0..64 {
         let owner = blocks[from + i];
@@ -89,19 +80,20 @@ fn passed_over(blocks: &[u16], old: Old, y: u16, size: u16) -> u16
     1
 }
 
-// The first old block from `from` on, or `size` where there is none.
-fn next_old(blocks: &[u16], old: Old, from: u16, size: u16) -> u16
+// The first old block from `from` on, below `size`, if there is one.
+fn next_old(blocks: &[u16], old: Old, from: u16, size: u16) -> Option<u16>
     requires { from ≤ size }
     ensures { NextOld blocks.now old.head.0 old.moved.0 from size result }
 {
     let mut y = from;
+    // a while loop, for 64 blocks may be passed over at once
     while y < size {
         if is_old(old, entry(blocks, y as usize), y) {
-            return y;
+            return Some(y);
         }
         y += passed_over(blocks, old, y, size);
     }
-    size
+    None
 }
 
 // The last anode of the side that a block goes to; `above`: above last reserved.
@@ -141,28 +133,15 @@ fn give_block(
     counts: &mut [u16],
     firsts: &mut [u16],
     nexts: &mut [u16],
-) -> Back
+) -> Result<Ends, Refusal>
     requires anode_tables { AnodeTables counts.old firsts.old nexts.old × (length slots.now ≡ 42) }
     requires ends_of { EndsOf ends (table_from counts.old firsts.old nexts.old slots.now) × ((ys : List ℕ) × InLimbo last.0 (y.0 ∷ ys) (table_from counts.old firsts.old nexts.old slots.now)) }
     ensures { Backs result last.0 y.0 (table_from counts.old firsts.old nexts.old slots.now) (table_from counts.new firsts.new nexts.new slots.now) }
 {
     let above = last.0 < y.0;
     let z = end_of(above, ends);
-    let step = join(slots, z, 1, y, counts, firsts, nexts);
-    let Step::Moved(_) = step else {
-        return Back::Stops(Refusal::NoFreeAnode);
-    };
-    Back::Goes(ends_after(nexts, above, ends))
-}
-
-// The answer of a run of blocks that a refused one stops.
-fn stopped_back(back: Back) -> Moves
-    ensures { result ≡ stopped_back back }
-{
-    match back {
-        Back::Goes(_) => Moves::Done,
-        Back::Stops(why) => Moves::Stopped(why),
-    }
+    join(slots, z, 1, y, counts, firsts, nexts)?;
+    Ok(ends_after(nexts, above, ends))
 }
 
 // Gives back every old block of the `size` of a disk, in rising order; `last`: last reserved. The ends of both sides of the free list are carried.
@@ -175,7 +154,7 @@ pub fn give_old(
     counts: &mut [u16],
     firsts: &mut [u16],
     nexts: &mut [u16],
-) -> Moves
+) -> Result<(), Refusal>
     requires anode_tables { AnodeTables counts.old firsts.old nexts.old × (length slots.now ≡ 42) }
     requires in_limbo { InLimbo last.0 (old_from blocks.now old.head.0 old.moved.0 size 0) (table_from counts.old firsts.old nexts.old slots.now) }
     ensures { EndsIn result (table_from counts.new firsts.new nexts.new slots.now) (given_back last.0 (old_from blocks.now old.head.0 old.moved.0 size 0) (table_from counts.old firsts.old nexts.old slots.now)) }
@@ -184,14 +163,10 @@ pub fn give_old(
         upper: last_anode(nexts, AnodeNo(1)),
         lower: last_anode(nexts, AnodeNo(2)),
     };
-    let mut y = next_old(blocks, old, 0, size);
-    while y < size {
-        let back = give_block(slots, last, BlockNo(y), ends, counts, firsts, nexts);
-        let Back::Goes(rest) = back else {
-            return stopped_back(back);
-        };
-        ends = rest;
-        y = next_old(blocks, old, y + 1, size);
+    let mut from = 0;
+    while let Some(y) = next_old(blocks, old, from, size) {
+        ends = give_block(slots, last, BlockNo(y), ends, counts, firsts, nexts)?;
+        from = y + 1;
     }
-    Moves::Done
+    Ok(())
 }

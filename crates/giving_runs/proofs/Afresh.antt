@@ -5,6 +5,7 @@ use mathlib.Core.Bool.{Bool}
 use mathlib.Core.List.{List}
 use mathlib.Core.Option.{none, some}
 use native.Mathlib.Omega.{arith}
+use Rattle.std.specs.Prelude.{Result, Ok, Err}
 use Rattle.disk.specs.declared.BlockNo.{BlockNo}
 use Rattle.disk.specs.declared.Refusal.{Refusal}
 use Rattle.disk.specs.Refusals.{number_of}
@@ -17,8 +18,6 @@ use Rattle.laws.specs.Owners.{full_inside}
 use Rattle.laws.specs.Plans.{afresh_again}
 use Rattle.laws.specs.Give.{side-end_used}
 use Rattle.laws.specs.RefusedSteps.{join-28}
-use Rattle.placing.specs.declared.Step.{Step}
-use Rattle.placing.specs.declared.Step.TheVariants.{Moved, Refused}
 use Rattle.placing.specs.Steps.{step_plan}
 use Rattle.placing.specs.States.{GoodState}
 
@@ -52,20 +51,18 @@ module _ (last d b : ℕ) where
 
     -- the slots have grown, its side then ends in z, and the step that the code makes there is the run's
     module _ (a : Anodes) (slots : ℕ → ℕ) (grew : growth s ≡ some (slotted a slots)) (m z : ℕ) (start : m ≡ side_of last b) (end : z ≡ last_of m (chain_of (cut a.next) 3444 m))
-        (step : Step) (t : Anodes) (is : step_plan step d t ≡ join 3444 z d b (exists_by slots) a) where
+        (step : Result BlockNo Refusal) (t : Anodes) (is : step_plan step d t ≡ join 3444 z d b (exists_by slots) a) where
       -- which is what is made afresh
       again : regrown joining 28 (growth s) ≡ at_slots slots (join 3444 z d b (exists_by slots) a)
       unfolding regrown
       again = rw (grew, is_end last b a slots m z start end)
 
       -- done, it has left t
-      pub joins_grown : (y : BlockNo) → step ≡ Moved y → (ys : List ℕ) × (regrown joining 28 (growth s) ≡ planned (slotted t slots) ys)
+      pub joins_grown : (y : BlockNo) → step ≡ Ok y → (ys : List ℕ) × (regrown joining 28 (growth s) ≡ planned (slotted t slots) ys)
       unfolding at_slots
-      joins_grown y e = (run y.0 d, again ∙ ap (at_slots slots) (sym is ∙ ap (λ (r : Step). step_plan r d t) e))
+      joins_grown y e = (run y.0 d, again ∙ ap (at_slots slots) (sym is ∙ ap (λ (r : Result BlockNo Refusal). step_plan r d t) e))
 
-      -- refused, it is so with 28
-      pub joins_refused : (why : Refusal) → step ≡ Refused why → regrown joining 28 (growth s) ≡ refused 28
+      -- refused, it is so for the same reason
+      pub joins_refused : (why : Refusal) → step ≡ Err why → regrown joining 28 (growth s) ≡ refused (number_of why)
       unfolding at_slots
-      joins_refused why e =
-          let q = sym is ∙ ap (λ (r : Step). step_plan r d t) e in
-          again ∙ ap (at_slots slots) q ∙ ap (λ (j : ℕ). refused j) ((join-28 3444 (exists_by slots) a z d b (number_of why)).0 q).0
+      joins_refused why e = again ∙ ap (at_slots slots) (sym is ∙ ap (λ (r : Result BlockNo Refusal). step_plan r d t) e)

@@ -1,5 +1,5 @@
 -- The last anode with a block of a chain whose anodes are in a list, and how long its run is.
-use Prim.Native.Nat.{ℕ, zero, suc, ◌+◌, ◌-◌, ◌≤◌, ◌<◌}
+use Prim.Native.Nat.{ℕ, zero, suc, ◌+◌, ◌-◌, ◌≤◌, ◌<◌, min}
 use mathlib.Core.Path.{◌≡◌, refl, ap, ◌∙◌}
 use mathlib.Core.Logic.{◌≢◌, inl, inr}
 use mathlib.Core.List.{List, [], ◌∷◌, ◌++◌, append_assoc}
@@ -10,7 +10,7 @@ use lib.Seq.{take-suc}
 use borrow.Author.Tests.{le-leb, lt-leb, lt-ltb, le-ltb, eq-eqb, ne_eqb}
 use Rattle.rules.specs.Counting.{sum_list, last_of}
 use Rattle.rules.specs.Space.{crosses, upper_run, lower_run, run_length, found, last_extent, first_found, nowhere}
-use Rattle.laws.specs.Tests.{same?}
+use Rattle.laws.specs.Tests.{same?, less?}
 use Rattle.laws.specs.Bags.{list_cons}
 use Rattle.laws.specs.Searches.{full_at, nowhere_at}
 use Rattle.laws.specs.SideEnds.{last_cons}
@@ -49,16 +49,10 @@ module _ (last c b : ℕ) where
   unfolding lower_run crosses
   lower_crossing h k = rw (le-leb b last h, lt-ltb (last + 1) (b + c) k)
 
-  module _ (k u : ℕ) (is : u ≡ upper_run last c b) where
-    -- all that are to go are in the upper run
-    pub run-all : k ≤ u → k ≡ run_length last k c b
-    unfolding run_length
-    run-all h = rw (← is, le-leb k u h)
-
-    -- or the upper run is what goes
-    pub run-part : u < k → u ≡ run_length last k c b
-    unfolding run_length
-    run-part h = rw (← is, lt-leb k u h)
+  -- of the upper run no more than are to go
+  pub run-min : (k u : ℕ) → u ≡ upper_run last c b → min k u ≡ run_length last k c b
+  unfolding run_length
+  run-min k u is = elim (less? u k) [ inl h ↦ rw (← is, lt-leb k u h) (omega arith) | inr h ↦ rw (← is, le-leb k u h) (omega arith) ]
 
 -- ---- the last anode with a block among the first of a list
 

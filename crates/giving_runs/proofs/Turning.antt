@@ -9,6 +9,9 @@ use native.Mathlib.Numerals.{add-one}
 use lib.Dec.{eqb, ltb}
 use lib.ListN.{length, get_or, take}
 use borrow.Author.Tests.{eq-eqb, ne_eqb, lt-ltb, le-ltb}
+use Rattle.std.specs.Prelude.{Result, Ok, Err}
+use Rattle.disk.specs.declared.BlockNo.{BlockNo}
+use Rattle.disk.specs.declared.Refusal.{Refusal}
 use Rattle.disk.specs.Refusals.{number_of}
 use Rattle.rules.specs.Counting.{sum_list, occurrences, last_of, changed}
 use Rattle.rules.specs.Anodes.{Anodes, limit, exists_by}
@@ -37,14 +40,11 @@ use Rattle.laws.specs.GiveRuns.{give_cases, NextRun, runs_next, next_fits, tail-
 use Rattle.laws.specs.SideEnds.{side-kept, Spare, CameTo, came_join, came_with, came_end, came_other}
 use Rattle.laws.specs.Carried.{end_after}
 use Rattle.laws.specs.RefusedRuns.{back_done, done-not}
-use Rattle.placing.specs.declared.Step.{Step}
 use Rattle.placing.specs.Steps.{UnlessMoved}
 use Rattle.placing.specs.States.{GoodState, Ready}
 use Rattle.placing.proofs.Found.{found_at}
 use Rattle.giving_runs.specs.declared.Run.{Run}
 use Rattle.giving_runs.specs.declared.Going.{Going}
-use Rattle.giving_runs.specs.declared.Turn.{Turn}
-use Rattle.giving_runs.specs.declared.Turn.TheVariants.{Goes, Stops}
 use Rattle.giving_runs.specs.Runs.{last_full, anode_before, run_to, Picked, Carries, RunOff, GivenGrown, Turns}
 use Rattle.giving_runs.proofs.Afresh.{joining, joins_afresh}
 use Rattle.giving_runs.proofs.Picking.{FullAt, full-found, one_more, last-at, before_is}
@@ -78,7 +78,7 @@ module _ (ex : ℕ → Bool) (s : Anodes) (h p x d z : ℕ) (t : Anodes) (b y : 
   goes-without e = let q = test ∙ e in rw (q, left, start, tail)
 
 -- refused, it is out of the chain and nothing else has changed
-pub stays_out : (s : Anodes) (h p x d : ℕ) (t : Anodes) (b : ℕ) → t ≡ without_run s h p x d b → b ≡ s.block x → (r : Step) (t' : Anodes) → UnlessMoved r t t' → UnlessMoved r (without_tail s h p x d) t'
+pub stays_out : (s : Anodes) (h p x d : ℕ) (t : Anodes) (b : ℕ) → t ≡ without_run s h p x d b → b ≡ s.block x → (r : Result BlockNo Refusal) (t' : Anodes) → UnlessMoved r t t' → UnlessMoved r (without_tail s h p x d) t'
 unfolding without_tail
 stays_out s h p x d t b left start r t' u = rw (← start, ← left) u
 
@@ -381,7 +381,7 @@ module _ (last : ℕ) (s : Anodes) (slots : ℕ → ℕ) (h : ℕ) (chain : List
   module _ (growth : Growth) (grows : (n : ℕ) → Grows limit n last growth) (t : Slotted) (ys : List ℕ) (gives : give_run 3444 growth last h r.before.0 r.anode.0 r.length (slotted s slots) ≡ planned t ys) where
     -- what is carried then, the last anodes of both sides known
     picked_next : (r' : Going) → r'.left ≡ g.left - r.length → r'.at ≡ cond r.whole r.place (r.place + 1) → r'.upper.0 ≡ last_of 1 (side 3444 t.anodes 1) → r'.lower.0 ≡ last_of 2 (side 3444 t.anodes 2) →
-        Turns (Goes r') growth last h chain g.left (slotted s slots) t
+        Turns (Ok r') growth last h chain g.left (slotted s slots) t
     picked_next r' left at upper lower = (
       omega (arith, left, picked_some.0, picked_some.1),
       turn_carries last s slots h chain g some c r.place r.anode.0 r.before.0 r.length r.first.0 k.place_is k.anode_is k.before_is k.length_is k.first_is growth (grows c.ready.0.n) t ys gives r' left
@@ -403,7 +403,7 @@ module _ (last : ℕ) (s : Anodes) (slots : ℕ → ℕ) (h : ℕ) (chain : List
       -- done
       pub picked_goes : (t : Anodes) (ys : List ℕ) → run_to (exists_by slots) h r.before.0 r.anode.0 r.length z s ≡ planned t ys → (r' : Going) → r'.left ≡ g.left - r.length → r'.at ≡ cond r.whole r.place (r.place + 1) →
           r'.upper.0 ≡ cond (ltb last r.first.0) (end_after (cut t.next) g.upper.0) g.upper.0 → r'.lower.0 ≡ cond (ltb last r.first.0) g.lower.0 (end_after (cut t.next) g.lower.0) →
-          Turns (Goes r') growth last h chain g.left (slotted s slots) (slotted t slots)
+          Turns (Ok r') growth last h chain g.left (slotted s slots) (slotted t slots)
       picked_goes t ys e r' left at upper lower =
           let ends = ends_after last s slots h chain g some c r.place r.anode.0 r.before.0 r.length r.first.0 k.place_is k.anode_is k.before_is k.length_is k.first_is z is_end t ys e in
           picked_next growth grows (slotted t slots) ys
@@ -411,7 +411,7 @@ module _ (last : ℕ) (s : Anodes) (slots : ℕ → ℕ) (h : ℕ) (chain : List
           r' left at (upper ∙ ends.0) (lower ∙ ends.1)
 
       -- refused, it is out and u is left, and then what is made of it where slots may grow
-      pub picked_grown : (j : ℕ) → run_to (exists_by slots) h r.before.0 r.anode.0 r.length z s ≡ refused j → (u : Anodes) → u ≡ without_tail s h r.before.0 r.anode.0 r.length → (turn : Turn) (t : Slotted) →
+      pub picked_grown : (j : ℕ) → run_to (exists_by slots) h r.before.0 r.anode.0 r.length z s ≡ refused j → (u : Anodes) → u ≡ without_tail s h r.before.0 r.anode.0 r.length → (turn : Result Going Refusal) (t : Slotted) →
           GivenGrown turn g r t (regrown (joining last r.length r.first.0) 28 (growth (slotted u slots))) → Turns turn growth last h chain g.left (slotted s slots) t
       picked_grown j e u out turn t w = go turn w
         where
@@ -419,6 +419,6 @@ module _ (last : ℕ) (s : Anodes) (slots : ℕ → ℕ) (h : ℕ) (chain : List
           again = run_stuck last s slots h chain g some c r.place r.anode.0 r.before.0 r.length r.first.0 k.place_is k.anode_is k.before_is k.length_is k.first_is z is_end growth j e
               ∙ ap (λ (i : Anodes). regrown (joining last r.length r.first.0) 28 (growth (slotted i slots))) (sym out)
 
-          go : (turn : Turn) → GivenGrown turn g r t (regrown (joining last r.length r.first.0) 28 (growth (slotted u slots))) → Turns turn growth last h chain g.left (slotted s slots) t
-          go (Goes g') w = picked_next growth grows t w.0.0 (again ∙ w.0.1) g' w.1 w.2 w.3 w.4
-          go (Stops why) w = turn_stops last s slots h chain g some c r.place r.anode.0 r.before.0 r.length r.first.0 k.place_is k.anode_is k.before_is k.length_is k.first_is growth (number_of why) (again ∙ w)
+          go : (turn : Result Going Refusal) → GivenGrown turn g r t (regrown (joining last r.length r.first.0) 28 (growth (slotted u slots))) → Turns turn growth last h chain g.left (slotted s slots) t
+          go (Ok g') w = picked_next growth grows t w.0.0 (again ∙ w.0.1) g' w.1 w.2 w.3 w.4
+          go (Err why) w = turn_stops last s slots h chain g some c r.place r.anode.0 r.before.0 r.length r.first.0 k.place_is k.anode_is k.before_is k.length_is k.first_is growth (number_of why) (again ∙ w)

@@ -1,5 +1,6 @@
 -- What the gives of whole runs look for, answer, and carry from one run to the next.
-use Rattle.std.specs.Prelude.{ℕ, zero, suc, ◌+◌, ◌-◌, ◌≤◌, ◌<◌, ◌≡◌, Bool, cond, not, ◌&&◌, List, ◌++◌, eqb, length, get_or, take}
+use Rattle.std.specs.Prelude.{ℕ, zero, suc, ◌+◌, ◌-◌, ◌≤◌, ◌<◌, ◌≡◌, Bool, cond, not, ◌&&◌, List, ◌++◌, eqb, length, get_or, take, Result, Ok, Err}
+use Rattle.disk.specs.declared.Refusal.{Refusal}
 use Rattle.disk.specs.Refusals.{number_of}
 use Rattle.rules.specs.Counting.{sum_list, last_of}
 use Rattle.rules.specs.Anodes.{Anodes}
@@ -9,8 +10,6 @@ use Rattle.rules.specs.Space.{run_length, without_tail, tail_start, join_with, j
 use Rattle.placing.specs.States.{GoodState, Ready}
 use Rattle.giving_runs.specs.declared.Run.{Run}
 use Rattle.giving_runs.specs.declared.Going.{Going}
-use Rattle.giving_runs.specs.declared.Turn.{Turn}
-use Rattle.giving_runs.specs.declared.Turn.TheVariants.{Goes, Stops}
 
 -- the place of the last anode with a block among the first k of a list
 unfoldable pub last_full : (ℕ → ℕ) → List ℕ → ℕ → ℕ
@@ -55,16 +54,16 @@ pub record RunOff (last : ℕ) (g : Going) (r : Run) (s : Slotted) : Type 0 wher
   pub placed : r.place < 3444
 
 -- what a give with growth answers: the plan is done and has left t, where the last anodes of both sides are known, or it is refused
-abbrev pub GivenGrown : Turn → Going → Run → Slotted → Plan Slotted → Type 0
-GivenGrown (Goes g') g r t p =
+abbrev pub GivenGrown : Result Going Refusal → Going → Run → Slotted → Plan Slotted → Type 0
+GivenGrown (Ok g') g r t p =
     ((ys : List ℕ) × (p ≡ planned t ys))
     × (g'.left ≡ g.left - r.length)
     × (g'.at ≡ cond r.whole r.place (r.place + 1))
     × (g'.upper.0 ≡ last_of 1 (side 3444 t.anodes 1))
     × (g'.lower.0 ≡ last_of 2 (side 3444 t.anodes 2))
-GivenGrown (Stops why) g r t p = p ≡ refused (number_of why)
+GivenGrown (Err why) g r t p = p ≡ refused (number_of why)
 
 -- a turn: a run is given and t is left, where fewer blocks are to go, or it is refused, and so is all
-abbrev pub Turns : Turn → Growth → ℕ → ℕ → List ℕ → ℕ → Slotted → Slotted → Type 0
-Turns (Goes g) growth last h chain left s t = (g.left < left) × Carries last h chain g t × ((ys : List ℕ) × ((f : ℕ) → give_runs 3444 growth last (suc f) left h s ≡ after ys (give_runs 3444 growth last f g.left h t)))
-Turns (Stops r) growth last h chain left s t = (f : ℕ) → give_runs 3444 growth last (suc f) left h s ≡ refused (number_of r)
+abbrev pub Turns : Result Going Refusal → Growth → ℕ → ℕ → List ℕ → ℕ → Slotted → Slotted → Type 0
+Turns (Ok g) growth last h chain left s t = (g.left < left) × Carries last h chain g t × ((ys : List ℕ) × ((f : ℕ) → give_runs 3444 growth last (suc f) left h s ≡ after ys (give_runs 3444 growth last f g.left h t)))
+Turns (Err r) growth last h chain left s t = (f : ℕ) → give_runs 3444 growth last (suc f) left h s ≡ refused (number_of r)

@@ -14,7 +14,7 @@ ghost use Rattle.giving_runs.specs.Runs.{last_full, anode_before, run_to, Picked
 
 use disk::{AnodeNo, BlockNo, Refusal};
 use growing::grow_slots;
-use placing::{Step, join, join_with, without_run};
+use placing::{join, join_with, without_run};
 use searches::{last_anode, next_before_two, side_of};
 use tables::entry;
 
@@ -36,13 +36,6 @@ pub struct Going {
     pub at: usize,
     pub upper: AnodeNo,
     pub lower: AnodeNo,
-}
-
-// What a turn answers: what it leaves to the next, or the refusal.
-#[derive(Clone, Copy)]
-pub enum Turn {
-    Goes(Going),
-    Stops(Refusal),
 }
 
 // How many blocks of an extent of `count` from `first` on are in its upper run; `last`: last reserved.
@@ -84,20 +77,14 @@ fn run_length(last: BlockNo, k: u64, count: u16, first: BlockNo) -> u16
     requires { first.0 + count ≤ 65535 }
     ensures { result ≡ run_length last.0 k count first.0 }
 {
-    let upper = upper_run(last, count, first);
-    if k <= upper as u64 {
-        return k as u16;
-    }
-    upper
+    k.min(upper_run(last, count, first) as u64) as u16
 }
 
 // The place of the last anode with a block among the first `k` of a chain.
 fn last_full(counts: &[u16], chain: &[u16], k: usize) -> usize
     ensures { result ≡ last_full (λ a. get_or counts.now a 0) chain.now k }
 {
-    let mut i = k;
-    while 0 < i {
-        i -= 1;
+    for i in (0..k).rev() {
         if entry(counts, entry(chain, i) as usize) != 0 {
             return i;
         }
@@ -147,10 +134,7 @@ fn pick_run(
 fn goes_along(run: Run, head: AnodeNo) -> bool
     ensures { result ≡ (run.whole && not (eqb run.anode.0 head.0)) }
 {
-    if run.whole {
-        return run.anode.0 != head.0;
-    }
-    false
+    run.whole && run.anode.0 != head.0
 }
 
 // Gives a run of the chain of `head` to its side of the free list, whose last anode is `z`: a whole extent with its anode, unless that is the head.
@@ -162,7 +146,7 @@ fn give_run(
     counts: &mut [u16],
     firsts: &mut [u16],
     nexts: &mut [u16],
-) -> Step
+) -> Result<BlockNo, Refusal>
     requires anode_tables { AnodeTables counts.old firsts.old nexts.old × (run.before.0 < 3444) × (run.anode.0 < 3444) × (z.0 < 3444) × (z.0 ≢ run.anode.0) }
     requires length_bound { (run.length ≤ get_or counts.old run.anode.0 0) × (run.first.0 + run.length ≤ 65535) × (0 < get_or counts.old z.0 0 → get_or firsts.old z.0 0 + get_or counts.old z.0 0 ≤ 65535) }
     requires first_value { (run.first.0 ≡ tail_start (anodes_from counts.old firsts.old nexts.old) run.anode.0 run.length) × (run.whole ≡ eqb (get_or counts.old run.anode.0 0) run.length) }
@@ -176,7 +160,7 @@ fn give_run(
     without_run(counts, firsts, nexts, head, p, x, run.length, first);
     if goes_along(run, head) {
         join_with(x, z, run.length, y, counts, firsts, nexts);
-        return Step::Moved(y);
+        return Ok(y);
     }
     join(slots, z, run.length, y, counts, firsts, nexts)
 }
@@ -248,20 +232,17 @@ fn give_grown(
     counts: &mut [u16],
     firsts: &mut [u16],
     nexts: &mut [u16],
-) -> Turn
+) -> Result<Going, Refusal>
     requires anode_tables { AnodeTables counts.old firsts.old nexts.old × (length slots.old ≡ 42) }
     requires run_off { RunOff last.0 g run (table_from counts.old firsts.old nexts.old slots.old) }
     ensures { GivenGrown result g run (table_from counts.new firsts.new nexts.new slots.new) (regrown (λ ex t. join 3444 (side_end 3444 last.0 t run.first.0) run.length run.first.0 ex t) 28 (growth_if growing (table_from counts.old firsts.old nexts.old slots.old))) }
 {
     if !grow_slots(growing, slots, counts, firsts, nexts) {
-        return Turn::Stops(Refusal::NoFreeAnode);
+        return Err(Refusal::NoFreeAnode);
     }
     let z = last_anode(nexts, side_of(last, run.first));
-    let step = join(slots, z, run.length, run.first, counts, firsts, nexts);
-    let Step::Moved(_) = step else {
-        return Turn::Stops(Refusal::NoFreeAnode);
-    };
-    Turn::Goes(Going {
+    join(slots, z, run.length, run.first, counts, firsts, nexts)?;
+    Ok(Going {
         left: g.left - run.length as u64,
         at: anodes_left(run),
         upper: last_anode(nexts, AnodeNo(1)),
@@ -280,7 +261,7 @@ pub fn give_turn(
     counts: &mut [u16],
     firsts: &mut [u16],
     nexts: &mut [u16],
-) -> Turn
+) -> Result<Going, Refusal>
     requires anode_tables { AnodeTables counts.old firsts.old nexts.old × (length slots.old ≡ 42) × (0 < g.left) }
     requires carries { Carries last.0 head.0 chain.now g (table_from counts.old firsts.old nexts.old slots.old) }
     ensures { Turns result (growth_if growing) last.0 head.0 chain.now g.left (table_from counts.old firsts.old nexts.old slots.old) (table_from counts.new firsts.new nexts.new slots.new) }
@@ -288,9 +269,8 @@ pub fn give_turn(
     let run = pick_run(last, g.left, chain, g.at, counts, firsts);
     let above = last.0 < run.first.0;
     let z = side_end(above, g);
-    let step = give_run(slots, head, z, run, counts, firsts, nexts);
-    let Step::Moved(_) = step else {
+    let Ok(_) = give_run(slots, head, z, run, counts, firsts, nexts) else {
         return give_grown(growing, slots, last, g, run, counts, firsts, nexts);
     };
-    Turn::Goes(carry_on(nexts, above, g, run))
+    Ok(carry_on(nexts, above, g, run))
 }

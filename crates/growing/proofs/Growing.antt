@@ -1,21 +1,22 @@
 -- The lowest empty slot, and the tables with a block in it.
-use Prim.Native.Nat.{ℕ, ◌+◌, ◌≤◌, ◌<◌}
-use mathlib.Core.Path.{◌≡◌, refl, sym, ap, ◌∙◌}
-use mathlib.Core.Logic.{◌≢◌, inl, inr}
-use mathlib.Core.Bool.{Bool, true, false}
+use Prim.Native.Nat.{ℕ, zero, suc, ◌+◌, ◌<◌}
+use mathlib.Core.Path.{◌≡◌, refl, ap, ◌∙◌}
+use mathlib.Core.Bool.{Bool, true, false, cond}
 use mathlib.Core.List.{List}
 use mathlib.Core.Option.{none, some}
+use Rattle.std.specs.Prelude.{Option, Some, None, option_map, MatchOption}
+use Rattle.std.specs.List.{find, range_with_len}
+use borrow.Author.Count.{below_more}
 use native.Mathlib.Omega.{arith}
+use lib.Dec.{eqb}
 use lib.ListN.{length, get_or, set}
-use borrow.Author.Tests.{eq-eqb, ne_eqb}
-use Rattle.rules.specs.Counting.{changed}
+use Rattle.rules.specs.Counting.{changed, least}
 use Rattle.rules.specs.Anodes.{Anodes, limit}
 use Rattle.rules.specs.Plans.{Slotted, slotted}
 use Rattle.rules.specs.Space.{nowhere, found, free_extent, without_run}
 use Rattle.rules.specs.Growth.{empty_slot, slot_from, grown}
-use Rattle.laws.specs.Tests.{same?}
 use Rattle.laws.specs.Sums.{least-found, least-none}
-use Rattle.laws.specs.Grown.{empty_cases, grown-full, grown_nowhere, grown-found}
+use Rattle.laws.specs.Grown.{grown-full, grown_nowhere, grown-found}
 use Rattle.anodes.specs.Loaded.{anodes_from, slots_from, table_from}
 use Rattle.placing.proofs.Tables.{set-changed}
 use Rattle.placing.proofs.Found.{first_out}
@@ -23,21 +24,23 @@ use Rattle.growing.specs.Grown.{growth_if}
 
 -- ---- the lowest empty slot
 
-module _ (slots : ℕ → ℕ) where
-  -- the slots below k are used
-  abbrev pub UsedBelow : ℕ → Type 0
-  UsedBelow k = (j : ℕ) → j < k → slots j ≢ 0
+-- r is the least number below top that passes, if there is one
+abbrev IsLeast : (ℕ → Bool) → ℕ → Option ℕ → Type 0
+IsLeast test top r = MatchOption r (least test top ≡ top) (λ k. (k < top) × (least test top ≡ k))
 
-  pub used_more : (k : ℕ) → UsedBelow k → slots k ≢ 0 → UsedBelow (k + 1)
-  used_more k u n j l = elim (same? j k) [ inl e ↦ rw e n | inr e ↦ u j (omega arith) ]
+-- the first of the numbers from a up to top that passes, where none below a does
+first_least : (test : ℕ → Bool) (a n top : ℕ) → a + n ≡ top → ((j : ℕ) → j < a → test j ≡ false) → IsLeast test top (find test (range_with_len a n))
+first_least test a zero top e before = least-none test top (λ j m. before j (omega arith))
+first_least test a (suc n) top e before = go (test a) refl (λ q. first_least test (a + 1) n top (omega arith) (below_more (λ j. test j ≡ false) a before q))
+  where
+    go : (b : Bool) → test a ≡ b → (test a ≡ false → IsLeast test top (find test (range_with_len (a + 1) n))) → IsLeast test top (cond b (Some a) (find test (range_with_len (a + 1) n)))
+    go true q later = (omega arith, least-found test a top (omega arith) before q)
+    go false q later = later q
 
-  pub empty_here : (k : ℕ) → k < 42 → UsedBelow k → slots k ≡ 0 → k ≡ empty_slot slots
-  unfolding empty_slot
-  empty_here k l u e = sym (least-found _ k 42 l (λ j m. ne_eqb (slots j) 0 (u j m)) (eq-eqb (slots k) 0 e))
-
-  pub empty_none : UsedBelow 42 → 42 ≡ empty_slot slots
-  unfolding empty_slot
-  empty_none u = sym (least-none _ 42 (λ j m. ne_eqb (slots j) 0 (u j m)))
+pub empty_first : (slots : ℕ → ℕ) (r : Option ℕ) → option_map (λ x. x) r ≡ find (λ k. eqb (slots k) 0) (range_with_len 0 42) → MatchOption r (empty_slot slots ≡ 42) (λ k. (k < 42) × (empty_slot slots ≡ k))
+unfolding empty_slot
+empty_first slots None e = rw (← e) at (first_least (λ k. eqb (slots k) 0) 0 42 42 refl (λ j l. absurd (omega arith)))
+empty_first slots (Some k) e = rw (← e) at (first_least (λ k. eqb (slots k) 0) 0 42 42 refl (λ j l. absurd (omega arith)))
 
 -- ---- growth on tables
 
@@ -52,8 +55,8 @@ grows_nowhere false s e = refl
 
 module _ (s : Slotted) where
   -- no slot is empty
-  pub grows_full : (b : Bool) (k : ℕ) → k ≡ empty_slot s.slots → 42 ≤ k → growth_if b s ≡ none
-  grows_full b k e l = grows_nowhere b s (grown-full limit s (elim (empty_cases s.slots) [ inl c ↦ absurd (omega (arith, c.0, e, l)) | inr c ↦ c.0 ]))
+  pub grows_full : (b : Bool) → empty_slot s.slots ≡ 42 → growth_if b s ≡ none
+  grows_full b e = grows_nowhere b s (grown-full limit s e)
 
   -- no block is free
   pub grows_out : (b : Bool) → free_extent limit true s.anodes ≡ nowhere → growth_if b s ≡ none

@@ -1,6 +1,7 @@
 -- What growing the anode table on tables answers, in the terms of the rules.
-use Rattle.std.specs.Prelude.{ℕ, ◌≤◌, ◌<◌, ◌≡◌, Bool, true, false, []}
+use Rattle.std.specs.Prelude.{◌<◌, ◌≡◌, Bool, true, false, [], Option, Some, None}
 use Rattle.std.proofs.Math.Option.{none, some}
+use Rattle.disk.specs.declared.AnodeNo.{AnodeNo}
 use Rattle.rules.specs.Anodes.{limit, exists_by}
 use Rattle.rules.specs.Plans.{Slotted, Growth, no_growth, planned, refused}
 use Rattle.rules.specs.Space.{lowest_free, with_spare}
@@ -16,7 +17,7 @@ abbrev pub GrownTo : Bool → Growth → Slotted → Slotted → Type 0
 GrownTo true growth s t = growth s ≡ some t
 GrownTo false growth s t = (growth s ≡ none) × (t ≡ s)
 
--- the anode that can be had from s, with the state t that has it free; 3,444 where none can
-pub record SpareOf (r : ℕ) (growth : Growth) (s t : Slotted) : Type 0 where
-  pub within : r < limit → (with_spare limit growth s ≡ planned t []) × (lowest_free limit (exists_by t.slots) t.anodes ≡ r)
-  pub cannot : limit ≤ r → with_spare limit growth s ≡ refused 28
+-- the anode that can be had from s, with the state t that has it free, if one can
+abbrev pub SpareOf : Option AnodeNo → Growth → Slotted → Slotted → Type 0
+SpareOf (Some a) growth s t = (a.0 < limit) × (with_spare limit growth s ≡ planned t []) × (lowest_free limit (exists_by t.slots) t.anodes ≡ a.0)
+SpareOf None growth s t = with_spare limit growth s ≡ refused 28

@@ -3,8 +3,7 @@
 
 ghost use Rattle.std.specs.Prelude.{◌≤◌, IfOk, length};
 
-use disk::number;
-use fsck::{Checked, check_disk};
+use fsck::check_disk;
 use header::disk_size;
 use std::io;
 use std::io::Read;
@@ -19,16 +18,15 @@ fn print_field(rt: &impl Print, word: &[u8], n: u64) -> io::Result<()> {
 fn print_line(rt: &impl Print, image: &[u8]) -> io::Result<()> {
     let mut blocks = [0u16; 128];
     let mut anodes = [0u16; 3444];
-    let c = check_disk(image, &mut blocks, &mut anodes);
-    match c {
-        Checked::Accepted(t) => {
+    match check_disk(image, &mut blocks, &mut anodes) {
+        Ok(t) => {
             print_field(rt, b"PFS0 ", disk_size(image) as u64)?;
             print_field(rt, b" free ", t.free as u64)?;
             print_field(rt, b" files ", t.files as u64)?;
             print_field(rt, b" dirs ", t.dirs as u64)?;
         }
-        Checked::Refused(r) => {
-            print_field(rt, b"REFUSED ", number(r) as u64)?;
+        Err(refusal) => {
+            print_field(rt, b"REFUSED ", u32::from(refusal) as u64)?;
         }
     }
     rt.write_all(b"\n")

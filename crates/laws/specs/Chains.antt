@@ -25,6 +25,13 @@ module _ (next : ℕ → ℕ) where
   chain_step k m zero e h = absurd (h refl)
   chain_step k m (suc a) e h = rw (e, add-one m)
 
+  -- at most k anodes
+  pub chain_short : (k a : ℕ) → length (chain_of next k a) ≤ k
+  unfolding chain_of
+  chain_short zero a = omega arith
+  chain_short (suc k) zero = omega arith
+  chain_short (suc k) (suc a) = omega (arith, chain_short k (next (suc a)))
+
 -- what a chain of at most k anodes from a on gives
 module _ {ℓ} {X : Type ℓ} (f : ℕ → List X) (next : ℕ → ℕ) where
   pub gathered_none : (k a : ℕ) → k ≡ 0 → gather f (chain_of next k a) ≡ []

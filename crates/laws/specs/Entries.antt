@@ -1,5 +1,5 @@
 -- The entries of a directory block, and the items that they give in a state of the anodes.
-use Rattle.std.specs.Prelude.{ℕ, zero, suc, ◌+◌, ◌*◌, ◌≤◌, ◌<◌, ◌≡◌, ◌≢◌, ◌⊎◌, Bool, ◌&&◌, List, [], ◌∷◌, map, get_or, T, eqb}
+use Rattle.std.specs.Prelude.{ℕ, zero, suc, ◌+◌, ◌*◌, ◌≤◌, ◌<◌, ◌≡◌, ◌≢◌, ◌⊎◌, Bool, ◌&&◌, List, [], ◌∷◌, map, get_or, T, eqb, Some, None, Ok, Err}
 use Rattle.std.proofs.Math.Path.{refl, sym, ap}
 use Rattle.std.proofs.Common.{◌∙◌, arith, eqb→eq, eq-eqb}
 use Rattle.std.proofs.Math.Logic.{inl, inr}
@@ -9,11 +9,11 @@ use Rattle.disk.specs.declared.Refusal.{Refusal}
 use Rattle.disk.specs.Refusals.{number_of}
 use Rattle.disk.specs.Blocks.{block_of}
 use Rattle.directory.specs.declared.Entry.{Entry}
-use Rattle.directory.specs.declared.Walked.TheVariants.{Found, End, Fault}
 use Rattle.directory.specs.Entries.{is_dir, name_in, walked_at}
 use Rattle.directory.proofs.Laws.{found_at, fault_at}
 use Rattle.reader.specs.declared.EntryRead.{EntryRead}
-use Rattle.reader.specs.Reads.{place_after, entry_read}
+use Rattle.reader.specs.declared.Reader.{Reader}
+use Rattle.reader.specs.Reads.{place_after, ReadsEntry, Reads}
 use Rattle.rules.specs.Counting.{sum_list, occurrences, any_in, gather}
 use Rattle.rules.specs.Folding.{folded}
 use Rattle.rules.specs.Anodes.{limit, Anodes}
@@ -32,11 +32,11 @@ use Rattle.laws.specs.TreeChanges.{AlikeItems}
 abbrev pub entered_at : Entry → List ℕ → ℕ → Entered
 entered_at x name start = record { broken = false; dir = is_dir x.kind; anode = x.anode.0; size = x.size; name = name; start = start }
 
-pub entries_more : (b : List ℕ) (y m at : ℕ) (x : Entry) → walked_at b at ≡ Found x → entries_from (suc m) b y at ≡ entered_at x (name_in b at) (y * 512 + at) ∷ entries_from m b y (at + get_or b at 0)
+pub entries_more : (b : List ℕ) (y m at : ℕ) (x : Entry) → walked_at b at ≡ Ok (Some x) → entries_from (suc m) b y at ≡ entered_at x (name_in b at) (y * 512 + at) ∷ entries_from m b y (at + get_or b at 0)
 unfolding entries_from
 entries_more b y m at x e = rw e
 
-pub entries_end_lem : (b : List ℕ) (y k at : ℕ) → walked_at b at ≡ End → entries_from k b y at ≡ []
+pub entries_end_lem : (b : List ℕ) (y k at : ℕ) → walked_at b at ≡ Ok None → entries_from k b y at ≡ []
 unfolding entries_from
 entries_end_lem b y zero at e = refl
 entries_end_lem b y (suc k) at e = rw e
@@ -51,24 +51,38 @@ pub block_whole : (img : List ℕ) (y : ℕ) (b : List ℕ) → b ≡ block_of i
 unfolding entries_in
 block_whole img y b e = rw e
 
--- the step of every walk over a block: what a reader reads at a place
-module _ (b : List ℕ) (at : ℕ) (r : EntryRead) (read : r ≡ entry_read b at) where
-  here_is : r.walked ≡ walked_at b at
-  unfolding entry_read
-  here_is = ap (λ x. x.walked) read
+-- the entries of block y that a reader of it has still to give
+abbrev pub entries_left : ℕ → Reader → List Entered
+entries_left y r = entries_from r.left r.block.now y r.at
 
-  -- the entries from the place on: what is read there, then those from the place behind it on
-  pub entries_read : (y k m : ℕ) → k ≡ m + 1 → entries_from k b y at ≡ with_rest r.walked (name_in b at) (y * 512 + at) (entries_from m b y r.after)
-  unfolding entries_from entry_read place_after
-  entries_read y k m fuel = rw (fuel, add-one m, read)
+-- the step of every walk over a block: what a reader gives
+module _ (y : ℕ) (r r' : Reader) where
+  -- an entry, and those behind it are left
+  pub reads_more : (x : EntryRead) → ReadsEntry r x r' → entries_left y r ≡ entered_at x.entry (name_in r.block.now x.at) (y * 512 + x.at) ∷ entries_left y r'
+  unfolding place_after
+  reads_more x w = rw (w.may, add-one r'.left, w.place, w.same_block, w.behind) (entries_more r.block.now y r'.left r.at x.entry w.entry)
+
+  -- nothing, where none is left
+  pub reads_none : Reads r None r' → entries_left y r ≡ []
+  reads_none (inl e) = entries_none r.block.now y r.left r.at e
+  reads_none (inr e) = entries_end_lem r.block.now y r.left r.at e
+
+  -- or a fault, the last that is left
+  pub reads_fault : (f : Refusal) → Reads r (Some (Err f)) r' → entries_left y r ≡ with_rest (Err f) (name_in r.block.now r.at) (y * 512 + r.at) []
+  unfolding entries_from
+  reads_fault f w = go r.left w.0 w.1
+    where
+      go : (k : ℕ) → 0 < k → walked_at r.block.now r.at ≡ Err f → entries_from k r.block.now y r.at ≡ with_rest (Err f) (name_in r.block.now r.at) (y * 512 + r.at) []
+      go zero l e = absurd (omega (arith, l))
+      go (suc k) l e = rw e
 
   -- an entry that is read begins within the block
-  pub read_within : (x : Entry) → r.walked ≡ Found x → at < 512
-  read_within x e = omega (arith, (found_at b at x (sym here_is ∙ e)).room)
+  pub read_within : (x : EntryRead) → ReadsEntry r x r' → x.at < 512
+  read_within x w = omega (arith, w.place, (found_at r.block.now r.at x.entry w.entry).room)
 
   -- a fault that is read is 12
-  pub read_fault : (x : Refusal) → r.walked ≡ Fault x → number_of x ≡ 12
-  read_fault x e = ap number_of (fault_at b at x (sym here_is ∙ e))
+  pub read_fault : (f : Refusal) → Reads r (Some (Err f)) r' → number_of f ≡ 12
+  read_fault f w = ap number_of (fault_at r.block.now r.at f w.1)
 
 -- no entry breaks the entry rules, as in every accepted image
 abbrev pub Unbroken : List Entered → Type 0

@@ -1,9 +1,8 @@
 -- A directory block with no entry: its length, its head, its end mark at byte 16, and whose block it is.
-use Rattle.std.specs.Prelude.{ℕ, ◌≡◌, refl, ◌&&◌, ◌||◌, List, [], ◌∷◌, T, eqb, length, get_or}
+use Rattle.std.specs.Prelude.{ℕ, ◌≡◌, refl, ◌&&◌, ◌||◌, List, [], ◌∷◌, T, eqb, length, get_or, None, Ok}
 use Rattle.std.proofs.Common.{sym, ◌∙◌, arith}
 use Rattle.std.proofs.Math.ListN.{length-replicate, get_or-replicate}
 use Rattle.disk.specs.Blocks.{block_of}
-use Rattle.directory.specs.declared.Walked.TheVariants.{End}
 use Rattle.directory.specs.Entries.{directory_mark, directory_header_in, walked_at}
 use Rattle.directory.proofs.Laws.{length-put_directory_header, get_or-put_directory_header-after, directory_header_in-put_directory_header}
 use Rattle.rules.specs.Counting.{gather}
@@ -27,7 +26,7 @@ module _ (owner parent : ℕ) where
   unfolding new_directory_block
   zero-new = get_or-put_directory_header-after zero_block _ 16 (omega arith) ∙ get_or-replicate {A = ℕ} 512 16 0 0 (omega arith)
 
-  pub mark-new : walked_at (new_directory_block owner parent) 16 ≡ End
+  pub mark-new : walked_at (new_directory_block owner parent) 16 ≡ Ok None
   unfolding walked_at
   mark-new = rw zero-new
 

@@ -2,11 +2,12 @@
 #![tactic(auto)]
 
 ghost use Rattle.std.specs.Prelude.{[], ◌≡◌};
+ghost use Rattle.disk.specs.Refusals.{answer_of};
 ghost use Rattle.rules.specs.Calls.{outcome_of};
 ghost use Rattle.looks.specs.Calls.{find_outcome, label_of, label_outcome};
 
-use disk::{AnodeNo, BlockNo, block_part, number, root_in};
-use fsck::{Checked, check_disk, open_disk};
+use disk::{AnodeNo, BlockNo, Refusal, block_part, root_in};
+use fsck::{DiskTables, check_disk};
 use reading::find_entry;
 
 // The fields of the first entry with that name in a directory, as list hands them back; zeros after a refusal.
@@ -17,41 +18,23 @@ pub fn find(
     directory: u16,
     name: &[u8],
     fields: &mut [u32; 11],
-) -> u32
-    ensures { outcome_of result image.now blocks.new anodes.new fields.new [] ≡ find_outcome image.now blocks.old anodes.old directory name.now }
+) -> Result<(), Refusal>
+    ensures { outcome_of (answer_of result) image.now blocks.new anodes.new fields.new [] ≡ find_outcome image.now blocks.old anodes.old directory name.now }
 {
-    let mut counts = [0u16; 3444];
-    let mut firsts = [0u16; 3444];
-    let mut nexts = [0u16; 3444];
-    let mut queue = [0u16; 3444];
-    let mut parents = [0u16; 3444];
-    let c = open_disk(
+    *fields = [0u32; 11];
+    let mut tables = DiskTables::empty();
+    let t = tables.open(image, blocks, anodes)?;
+    find_entry(
         image,
-        blocks,
+        &tables.firsts,
+        &tables.nexts,
+        &tables.queue,
         anodes,
-        &mut counts,
-        &mut firsts,
-        &mut nexts,
-        &mut queue,
-        &mut parents,
-    );
-    match c {
-        Checked::Accepted(t) => find_entry(
-            image,
-            &firsts,
-            &nexts,
-            &queue,
-            anodes,
-            t.dirs,
-            AnodeNo(directory),
-            name,
-            fields,
-        ),
-        Checked::Refused(r) => {
-            *fields = [0u32; 11];
-            number(r)
-        }
-    }
+        t.dirs,
+        AnodeNo(directory),
+        name,
+        fields,
+    )
 }
 
 // Stores the label of the disk in the lent array.
@@ -71,18 +54,16 @@ fn put_label(image: &[u8], fields: &mut [u32; 7])
 }
 
 // The disk's last reserved block, stamp, protection and name, this by offset in the image and length; zeros after a refusal.
-pub fn label(image: &[u8], blocks: &mut [u16], anodes: &mut [u16], fields: &mut [u32; 7]) -> u32
-    ensures { outcome_of result image.now blocks.new anodes.new fields.new [] ≡ label_outcome image.now blocks.old anodes.old }
+pub fn label(
+    image: &[u8],
+    blocks: &mut [u16],
+    anodes: &mut [u16],
+    fields: &mut [u32; 7],
+) -> Result<(), Refusal>
+    ensures { outcome_of (answer_of result) image.now blocks.new anodes.new fields.new [] ≡ label_outcome image.now blocks.old anodes.old }
 {
-    let c = check_disk(image, blocks, anodes);
-    match c {
-        Checked::Accepted(_) => {
-            put_label(image, fields);
-            0
-        }
-        Checked::Refused(r) => {
-            *fields = [0u32; 7];
-            number(r)
-        }
-    }
+    *fields = [0u32; 7];
+    check_disk(image, blocks, anodes)?;
+    put_label(image, fields);
+    Ok(())
 }

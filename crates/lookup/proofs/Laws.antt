@@ -1,7 +1,9 @@
 -- Laws of the rules' entries and lookups, from a place on. Assumes nothing.
-use Prim.Native.Nat.{ℕ, ◌+◌, ◌*◌, ◌/◌, ◌%◌, ◌<◌, ◌≤◌}
+use Rattle.std.specs.Prelude.{Option as Answer, Some, None, Err}
+use Rattle.std.specs.Option.{is_some, option_or}
+use Prim.Native.Nat.{ℕ, ◌+◌, ◌*◌, ◌/◌, ◌%◌, ◌<◌}
 use mathlib.Core.Path.{◌≡◌, refl, sym}
-use mathlib.Core.Bool.{Bool, true, false, true≢false}
+use mathlib.Core.Bool.{Bool, true, false, true≢false, false≢true}
 use mathlib.Core.List.{List, [], ◌∷◌, ◌++◌}
 use mathlib.Core.Option.{Option, none, some}
 use native.Mathlib.Numerals.{add-one}
@@ -9,21 +11,20 @@ use native.Mathlib.Omega.{arith}
 use lib.ListN.{get_or}
 use Rattle.disk.specs.declared.Refusal.{Refusal}
 use Rattle.disk.specs.Blocks.{block_of}
-use Rattle.directory.specs.declared.Entry.{Entry}
-use Rattle.directory.specs.declared.Walked.{Walked}
-use Rattle.directory.specs.declared.Walked.TheVariants.{Found, Fault}
 use Rattle.directory.specs.Entries.{name_in}
 use Rattle.counting.specs.Laws.{neither}
-use Rattle.rules.specs.Counting.{any_in, gather, same_bytes}
-use Rattle.rules.specs.Folding.{folded}
+use Rattle.rules.specs.Counting.{any_in, gather}
 use Rattle.rules.specs.Anodes.{limit}
 use Rattle.rules.specs.Chains.{chain_of}
-use Rattle.rules.specs.Walk.{Entered, with_rest, entries_in}
+use Rattle.rules.specs.Walk.{Entered, entries_in}
 use Rattle.rules.specs.Lookup.{name_at, is_named, first_named, entry_named, entries_of, nth}
 use Rattle.anodes.specs.Loaded.{anodes_from}
-use Rattle.laws.specs.Entries.{Unbroken}
-use Rattle.laws.specs.Chains.{gathered_step}
-use Rattle.lookup.specs.Answers.{or_else, only_if}
+use Rattle.laws.specs.Entries.{Unbroken, entries_left, reads_more, reads_fault, read_within}
+use Rattle.reader.specs.declared.Reader.{Reader}
+use Rattle.reader.specs.declared.EntryRead.{EntryRead}
+use Rattle.reader.specs.Reads.{ReadsEntry, Reads}
+use Rattle.lookup.specs.declared.EntryAt.{EntryAt}
+use Rattle.lookup.specs.Answers.{entry_of, or_else, only_if, placed, entered}
 
 -- ---- the entries of a block, from a place on
 
@@ -50,21 +51,39 @@ or-none : (o : Option Entered) → or_else o none ≡ o
 or-none none = refl
 or-none (some e) = refl
 
--- what is read at a place, with the entries behind it
-module _ (w : Walked) (name : List ℕ) (start : ℕ) (rest : List Entered) where
-  pub unbroken_no_fault : (r : Refusal) → w ≡ Fault r → Unbroken (with_rest w name start rest) → ⊥
-  unfolding any_in
-  unbroken_no_fault r e u = true≢false (rw e at u)
+-- what a reader of a block still has to give: at its start the entries of the block
+pub reader_whole : (img : List ℕ) (y : ℕ) (r : Reader) → r.block.now ≡ block_of img y → r.at ≡ 16 → r.left ≡ 28 → entries_left y r ≡ entries_in img y
+unfolding entries_in
+reader_whole img y r b a l = rw (b, a, l)
 
-  pub unbroken_rest : (e : Entry) → w ≡ Found e → Unbroken (with_rest w name start rest) → Unbroken rest
+-- what a reader of block y gives
+module _ (img : List ℕ) (y : ℕ) (r r' : Reader) (is : r.block.now ≡ block_of img y) where
+  -- an entry, as a lookup places it, before those that are left
+  pub reads_placed : (x : EntryRead) → ReadsEntry r x r' → entries_left y r ≡ entered img (placed x.entry (y * 512 + x.at)) ∷ entries_left y r'
+  reads_placed x w = rw (name_at_lem img y r.block.now x.at is (read_within y r r' x w)) (reads_more y r r' x w)
+
+  -- of the same block
+  pub reads_same : (x : EntryRead) → ReadsEntry r x r' → r'.block.now ≡ block_of img y
+  reads_same x w = rw w.same_block is
+
+  pub unbroken_rest : (x : EntryRead) → ReadsEntry r x r' → Unbroken (entries_left y r) → Unbroken (entries_left y r')
   unfolding any_in
-  unbroken_rest e is u = rw is at u
+  unbroken_rest x w u = rw (reads_placed x w) at u
+
+  -- and no fault where none is broken
+  pub unbroken_no_fault : (f : Refusal) → Reads r (Some (Err f)) r' → Unbroken (entries_left y r) → ⊥
+  unfolding any_in
+  unbroken_no_fault f w u = true≢false (rw (reads_fault y r r' f w) at u)
 
 -- an entry passed: the first found so far with the entries from the place on, and with the one at the place before those behind it
 pub named-passed : (name : List ℕ) (e : Entered) (rest : List Entered) (found : Option Entered)
-    → or_else (or_else found (only_if (same_bytes (folded e.name) (folded name)) e)) (first_named name rest) ≡ or_else found (first_named name (e ∷ rest))
-unfolding is_named
-named-passed name e rest found = rw (first_step name e rest) (or_assoc found (only_if (same_bytes (folded e.name) (folded name)) e) (first_named name rest))
+    → or_else (or_else found (only_if (is_named name e) e)) (first_named name rest) ≡ or_else found (first_named name (e ∷ rest))
+named-passed name e rest found = rw (first_step name e rest) (or_assoc found (only_if (is_named name e) e) (first_named name rest))
+
+-- the first of two answers
+pub or_found : (img : List ℕ) (one two : Answer EntryAt) → entry_of img (option_or one two) ≡ or_else (entry_of img one) (entry_of img two)
+or_found img (Some e) two = refl
+or_found img None two = refl
 
 pub named_none : (name : List ℕ) (es : List Entered) → es ≡ [] → first_named name es ≡ none
 unfolding first_named
@@ -72,6 +91,14 @@ named_none name es e = rw e
 
 pub named_ended : (name : List ℕ) (es : List Entered) (found : Option Entered) → es ≡ [] → or_else found (first_named name es) ≡ found
 named_ended name es found e = rw (named_none name es e) (or-none found)
+
+pub first_found : (img : List ℕ) (one : Answer EntryAt) (later : Option Entered) → is_some one ≡ true → or_else (entry_of img one) later ≡ entry_of img one
+first_found img (Some e) later s = refl
+first_found img None later s = absurd (false≢true s)
+
+pub later_found : (img : List ℕ) (one : Answer EntryAt) (later : Option Entered) → is_some one ≡ false → or_else (entry_of img one) later ≡ later
+later_found img (Some e) later s = absurd (true≢false s)
+later_found img None later s = refl
 
 -- ---- counting down over the entries of a block, with others behind them
 
@@ -89,14 +116,18 @@ module _ (e : Entered) (es : List Entered) (n : ℕ) where
 
 -- ---- the entries along a chain
 
--- the entries of at most k anodes from a on
-unfoldable pub entries_along : List ℕ → List ℕ → List ℕ → ℕ → ℕ → List Entered
-entries_along img firsts nexts k a = gather (λ x. entries_in img (get_or firsts x 0)) (chain_of (λ x. get_or nexts x 0) k a)
+-- the entries of the blocks of a list of anodes
+unfoldable pub entries_along : List ℕ → List ℕ → List ℕ → List Entered
+entries_along img firsts anodes = gather (λ x. entries_in img (get_or firsts x 0)) anodes
 
 -- the counts are not looked at
-pub along_whole : (img firsts nexts c : List ℕ) (h : ℕ) → entries_of img (anodes_from c firsts nexts) h ≡ entries_along img firsts nexts limit h
+pub along_whole : (img firsts nexts c : List ℕ) (h : ℕ) → entries_of img (anodes_from c firsts nexts) h ≡ entries_along img firsts (chain_of (λ x. get_or nexts x 0) limit h)
 unfolding entries_of anodes_from entries_along
 along_whole img firsts nexts c h = refl
+
+pub along_end : (img firsts anodes : List ℕ) → anodes ≡ [] → entries_along img firsts anodes ≡ []
+unfolding entries_along gather
+along_end img firsts anodes e = rw e
 
 unbroken_append : (xs ys : List Entered) → Unbroken (xs ++ ys) → Unbroken xs × Unbroken ys
 unfolding any_in
@@ -113,26 +144,24 @@ first-append name (e ∷ xs) ys =
     rw (first_step name e (xs ++ ys), first_step name e xs, first-append name xs ys)
     (sym (or_assoc (only_if (is_named name e) e) (first_named name xs) (first_named name ys)))
 
-module _ (img firsts nexts : List ℕ) (k m a : ℕ) (fuel : k ≡ m + 1) (some_anode : a ≡ 0 → ⊥) where
+module _ (img firsts anodes : List ℕ) (a : ℕ) (rest : List ℕ) (is : anodes ≡ a ∷ rest) where
   -- the entries of anode a's block, and those behind it
-  pub along : entries_along img firsts nexts k a ≡ entries_in img (get_or firsts a 0) ++ entries_along img firsts nexts m (get_or nexts a 0)
-  unfolding entries_along
-  along = gathered_step (λ x. entries_in img (get_or firsts x 0)) (λ x. get_or nexts x 0) k m a fuel some_anode
+  pub along : entries_along img firsts anodes ≡ entries_in img (get_or firsts a 0) ++ entries_along img firsts rest
+  unfolding entries_along gather
+  along = rw is
 
-  pub unbroken_along : Unbroken (entries_along img firsts nexts k a)
-      → Unbroken (entries_in img (get_or firsts a 0)) × Unbroken (entries_along img firsts nexts m (get_or nexts a 0))
-  unbroken_along u = unbroken_append (entries_in img (get_or firsts a 0)) (entries_along img firsts nexts m (get_or nexts a 0)) (rw along at u)
+  pub unbroken_along : Unbroken (entries_along img firsts anodes) → Unbroken (entries_in img (get_or firsts a 0)) × Unbroken (entries_along img firsts rest)
+  unbroken_along u = unbroken_append (entries_in img (get_or firsts a 0)) (entries_along img firsts rest) (rw along at u)
 
   -- the first in the block of anode a, else the first behind it
   pub named_along : (name : List ℕ) (o : Option Entered) → o ≡ first_named name (entries_in img (get_or firsts a 0))
-      → or_else o (first_named name (entries_along img firsts nexts m (get_or nexts a 0))) ≡ first_named name (entries_along img firsts nexts k a)
-  named_along name o h = rw (along, first-append name (entries_in img (get_or firsts a 0)) (entries_along img firsts nexts m (get_or nexts a 0)), h)
+      → or_else o (first_named name (entries_along img firsts rest)) ≡ first_named name (entries_along img firsts anodes)
+  named_along name o h = rw (along, first-append name (entries_in img (get_or firsts a 0)) (entries_along img firsts rest), h)
 
-  pub nth_along : (n : ℕ) (o : Option Entered) → o ≡ nth (entries_in img (get_or firsts a 0) ++ entries_along img firsts nexts m (get_or nexts a 0)) n
-      → o ≡ nth (entries_along img firsts nexts k a) n
+  pub nth_along : (n : ℕ) (o : Option Entered) → o ≡ nth (entries_in img (get_or firsts a 0) ++ entries_along img firsts rest) n → o ≡ nth (entries_along img firsts anodes) n
   nth_along n o h = rw along h
 
-pub named_whole : (img firsts nexts c : List ℕ) (h : ℕ) (name : List ℕ) → entry_named img (anodes_from c firsts nexts) h name ≡ first_named name (entries_along img firsts nexts limit h)
+pub named_whole : (img firsts nexts c : List ℕ) (h : ℕ) (name : List ℕ) → entry_named img (anodes_from c firsts nexts) h name ≡ first_named name (entries_along img firsts (chain_of (λ x. get_or nexts x 0) limit h))
 unfolding entry_named
 named_whole img firsts nexts c h name = rw (along_whole img firsts nexts c h)
 

@@ -1,4 +1,6 @@
 -- Laws of a search in the queue that the walk left, from a place on. Assumes nothing.
+use Rattle.std.specs.Prelude.{Option, Some, None, MatchOption}
+use Rattle.std.specs.Option.{is_some}
 use Prim.Native.Nat.{ℕ, zero, suc, ◌+◌, ◌≤◌, ◌<◌}
 use mathlib.Core.Path.{◌≡◌, refl, sym, ap, ◌∙◌}
 use mathlib.Core.Logic.{inl, inr}
@@ -57,6 +59,11 @@ module _ (queue : List ℕ) (h : ℕ) where
     | inl l ↦ (let at = place_at 0 n (omega (arith, l)) in absurd (is (ap (λ (x : ℕ). get_or heads x 0) (sym at) ∙ own (place_of queue h 0 n) l ∙ at)))
     | inr l ↦ l
   ]
+
+  -- a search in the whole queue finds a place exactly where one is below n
+  pub place_there : (n : ℕ) (o : Option ℕ) → MatchOption o (place_of queue h 0 n ≡ n) (λ i. (i < n) × (place_of queue h 0 n ≡ i)) → ltb (place_of queue h 0 n) n ≡ is_some o
+  place_there n (Some i) f = rw f.1 (lt-ltb i n f.0)
+  place_there n None f = rw f (le-ltb n n (omega arith))
 
   module _ (parents : List ℕ) where
     occurrences_from : (i n : ℕ) → not (ltb (place_of queue h i n) (i + n)) ≡ none_headed (dirs_from queue parents i n) h

@@ -1,24 +1,25 @@
 // Looks up the entries of a directory in an accepted image.
 #![tactic(auto)]
 
-ghost use Rattle.std.specs.Prelude.{not, List, [], ◌++◌, ◌≡◌, ℕ, ◌+◌, ◌*◌, ◌<◌, ◌≤◌};
+ghost use Rattle.std.specs.Prelude.{not, MatchOption, List, [], ◌++◌, ◌≡◌, ℕ, ◌+◌, ◌*◌, ◌<◌, ◌≤◌};
 ghost use Rattle.directory.specs.Entries.{name_in};
 ghost use Rattle.rules.specs.Counting.{same_bytes};
 ghost use Rattle.rules.specs.Walk.{Entered, entries_in};
 ghost use Rattle.rules.specs.Changes.{parent_of};
 ghost use Rattle.rules.specs.Folding.{folded};
-ghost use Rattle.rules.specs.Lookup.{name_at, first_named, entry_named, entries_of, nth, none_headed};
-ghost use Rattle.laws.specs.Entries.{entered_at, Unbroken};
+ghost use Rattle.rules.specs.Lookup.{is_named, first_named, entry_named, entries_of, nth, none_headed};
+ghost use Rattle.laws.specs.Entries.{Unbroken};
 ghost use Rattle.anodes.specs.Loaded.{anodes_from};
-ghost use Rattle.lookup.specs.Answers.{entry_of, or_else, only_if, placed, or_rest};
+ghost use Rattle.lookup.specs.Answers.{entry_of, entered, only_if, placed, or_rest};
 ghost use Rattle.lookup.specs.Queued.{place_of, OwnHeads};
 ghost use Rattle.walk_steps.specs.Steps.{queue_of};
 
-use directory::{Entry, Kind, Walked};
+use directory::{Entry, Kind};
 use disk::{AnodeNo, BlockNo, block_part};
 use endian::{part, read8};
 use folding::same_folded;
-use reader::read_entry;
+use links::Links;
+use reader::{EntryRead, Reader};
 use tables::entry;
 
 // An entry of a directory: what it names, and the place of its first byte in the image.
@@ -30,32 +31,16 @@ pub struct EntryAt {
     pub start: usize,
 }
 
-// What a lookup answers.
-#[derive(Clone, Copy)]
-pub enum Lookup {
-    Found(EntryAt),
-    Missing,
-}
-
-// What a block gives when entries are counted down: the one asked for, or how many are still to be passed after the block.
-#[derive(Clone, Copy)]
-enum Passed {
-    Found(EntryAt),
-    Left(u64),
-}
-
-// Where `head` first stands among the first `dirs` numbers of the queue; `dirs` if it does not.
-fn place_in_queue(queue: &[u16], dirs: u16, head: AnodeNo) -> u16
-    ensures { result ≡ place_of queue.now head.0 0 dirs }
+// Where `head` first stands among the first `dirs` numbers of the queue.
+fn place_in_queue(queue: &[u16], dirs: u16, head: AnodeNo) -> Option<u16>
+    ensures { MatchOption result (place_of queue.now head.0 0 dirs ≡ dirs) (λ i. (i < dirs) × (place_of queue.now head.0 0 dirs ≡ i)) }
 {
-    let mut i: u16 = 0;
-    while i < dirs {
+    for i in 0..dirs {
         if entry(queue, i as usize) == head.0 {
-            return i;
+            return Some(i);
         }
-        i += 1;
     }
-    i
+    None
 }
 
 // Whether `head` heads a reached directory: its chain's head is itself in the table that the check filled, and the walk queued it.
@@ -66,18 +51,17 @@ pub fn is_reached(heads: &[u16], queue: &[u16], dirs: u16, head: AnodeNo) -> boo
     if entry(heads, head.0 as usize) != head.0 {
         return false;
     }
-    place_in_queue(queue, dirs, head) < dirs
+    place_in_queue(queue, dirs, head).is_some()
 }
 
 // The head of a reached directory's parent; 0 for the root, and where the walk queued no such directory.
 pub fn parent_of(queue: &[u16], parents: &[u16], dirs: u16, head: AnodeNo) -> AnodeNo
     ensures { result.0 ≡ parent_of (queue_of queue.now parents.now dirs) head.0 }
 {
-    let i = place_in_queue(queue, dirs, head);
-    if i < dirs {
-        return AnodeNo(entry(parents, i as usize));
+    match place_in_queue(queue, dirs, head) {
+        Some(i) => AnodeNo(entry(parents, i as usize)),
+        None => AnodeNo(0),
     }
-    AnodeNo(0)
 }
 
 // An entry at a place of block `b`, as a lookup answers it.
@@ -85,11 +69,9 @@ pub fn entry_in_image(b: BlockNo, at: usize, e: Entry) -> EntryAt
     requires { at ≤ 65535 }
     ensures { result ≡ placed e (b.0 * 512 + at) }
 {
-    let kind = e.kind;
-    let anode = e.anode;
     EntryAt {
-        kind,
-        anode,
+        kind: e.kind,
+        anode: e.anode,
         size: e.size,
         start: (b.0 as usize) * 512 + at,
     }
@@ -104,48 +86,29 @@ fn has_name(block: &[u8], at: usize, name: &[u8]) -> bool
     same_folded(part(block, at + 16, len), name)
 }
 
-// The first of two answers that found an entry.
-fn first_of(one: Lookup, later: Lookup) -> Lookup
-    ensures { (img : List ℕ) → entry_of img result ≡ or_else (entry_of img one) (entry_of img later) }
+// The entry that was read in block `b`, if it has that name.
+fn named_at(block: &[u8], b: BlockNo, read: EntryRead, name: &[u8]) -> Option<EntryAt>
+    requires { read.at ≤ 65535 }
+    ensures { (img : List ℕ) → let e = entered img (placed read.entry (b.0 * 512 + read.at)) in e.name ≡ name_in block.now read.at → entry_of img result ≡ only_if (is_named name.now e) e }
 {
-    if let Lookup::Found(_) = one {
-        return one;
+    if has_name(block, read.at, name) {
+        return Some(entry_in_image(b, read.at, read.entry));
     }
-    later
-}
-
-// The entry at a place of block `b`, if it has that name.
-fn named_at(block: &[u8], b: BlockNo, at: usize, e: Entry, name: &[u8]) -> Lookup
-    requires { at ≤ 65535 }
-    ensures { (img : List ℕ) → name_at img (b.0 * 512 + at) ≡ name_in block.now at → entry_of img result ≡ only_if (same_bytes (folded (name_in block.now at)) (folded name.now)) (entered_at e (name_in block.now at) (b.0 * 512 + at)) }
-{
-    if has_name(block, at, name) {
-        return Lookup::Found(entry_in_image(b, at, e));
-    }
-    Lookup::Missing
+    None
 }
 
 // The first entry with that name in block `b`.
-fn named_in(image: &[u8], b: BlockNo, name: &[u8]) -> Lookup
+fn named_in(image: &[u8], b: BlockNo, name: &[u8]) -> Option<EntryAt>
     requires { Unbroken (entries_in image.now b.0) }
     ensures { entry_of image.now result ≡ first_named name.now (entries_in image.now b.0) }
 {
     let block = block_part(image, b);
-    let mut found = Lookup::Missing;
-    let mut at: usize = 16;
-    let mut fuel: usize = 28;
-    while fuel > 0 {
-        let read = read_entry(block, at);
-        let walked = read.walked;
-        let e = match walked {
-            Walked::Found(e) => e,
-            Walked::End => return found,
-            Walked::Fault(_) => return found,
+    let mut found = None;
+    for item in Reader::of(block) {
+        let Ok(read) = item else {
+            return found;
         };
-        let here = named_at(block, b, at, e, name);
-        found = first_of(found, here);
-        at = read.after;
-        fuel -= 1;
+        found = found.or(named_at(block, b, read, name));
     }
     found
 }
@@ -157,76 +120,54 @@ pub fn entry_named(
     nexts: &[u16],
     head: AnodeNo,
     name: &[u8],
-) -> Lookup
+) -> Option<EntryAt>
     requires { Unbroken (entries_of image.now (anodes_from [] firsts.now nexts.now) head.0) }
     ensures { (c : List ℕ) → entry_of image.now result ≡ entry_named image.now (anodes_from c firsts.now nexts.now) head.0 name.now }
 {
-    let mut at = head.0 as usize;
-    let mut fuel: usize = 3444;
-    while fuel > 0 {
-        if at == 0 {
-            return Lookup::Missing;
-        }
-        let found = named_in(image, BlockNo(entry(firsts, at)), name);
-        if let Lookup::Found(_) = found {
+    for a in Links::along(nexts, head) {
+        let found = named_in(image, BlockNo(entry(firsts, a.0 as usize)), name);
+        if found.is_some() {
             return found;
         }
-        at = entry(nexts, at) as usize;
-        fuel -= 1;
     }
-    Lookup::Missing
+    None
 }
 
 // The n-th entry, from 0, of block `b`, or how many are still to be passed after the block.
-fn nth_in(image: &[u8], b: BlockNo, n: u64) -> Passed
+fn nth_in(image: &[u8], b: BlockNo, n: u64) -> Result<EntryAt, u64>
     requires { Unbroken (entries_in image.now b.0) }
     ensures { (rest : List Entered) → or_rest image.now result rest ≡ nth (entries_in image.now b.0 ++ rest) n }
 {
-    let block = block_part(image, b);
     let mut left = n;
-    let mut at: usize = 16;
-    let mut fuel: usize = 28;
-    while fuel > 0 {
-        let read = read_entry(block, at);
-        let walked = read.walked;
-        let e = match walked {
-            Walked::Found(e) => e,
-            Walked::End => return Passed::Left(left),
-            Walked::Fault(_) => return Passed::Left(left),
+    for item in Reader::of(block_part(image, b)) {
+        let Ok(read) = item else {
+            return Err(left);
         };
         if left == 0 {
-            return Passed::Found(entry_in_image(b, at, e));
+            return Ok(entry_in_image(b, read.at, read.entry));
         }
         left -= 1;
-        at = read.after;
-        fuel -= 1;
     }
-    Passed::Left(left)
+    Err(left)
 }
 
 // The n-th entry, from 0, of the directory that `head` heads.
-pub fn nth_entry(image: &[u8], firsts: &[u16], nexts: &[u16], head: AnodeNo, n: u64) -> Lookup
+pub fn nth_entry(
+    image: &[u8],
+    firsts: &[u16],
+    nexts: &[u16],
+    head: AnodeNo,
+    n: u64,
+) -> Option<EntryAt>
     requires { Unbroken (entries_of image.now (anodes_from [] firsts.now nexts.now) head.0) }
     ensures { (c : List ℕ) → entry_of image.now result ≡ nth (entries_of image.now (anodes_from c firsts.now nexts.now) head.0) n }
 {
     let mut left = n;
-    let mut at = head.0 as usize;
-    let mut fuel: usize = 3444;
-    while fuel > 0 {
-        if at == 0 {
-            return Lookup::Missing;
+    for a in Links::along(nexts, head) {
+        match nth_in(image, BlockNo(entry(firsts, a.0 as usize)), left) {
+            Ok(e) => return Some(e),
+            Err(after) => left = after,
         }
-        let step = nth_in(image, BlockNo(entry(firsts, at)), left);
-        match step {
-            Passed::Found(e) => {
-                return Lookup::Found(e);
-            }
-            Passed::Left(after) => {
-                left = after;
-            }
-        }
-        at = entry(nexts, at) as usize;
-        fuel -= 1;
     }
-    Lookup::Missing
+    None
 }

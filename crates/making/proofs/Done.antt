@@ -1,11 +1,13 @@
 -- What the planning of a make finds in the tables, and what a make leaves of the image and of its tables.
-use Prim.Native.Nat.{ℕ, ◌+◌, ◌/◌, ◌%◌, ◌≤◌, ◌<◌}
+use Prim.Native.Nat.{ℕ, ◌+◌, ◌/◌, ◌%◌}
 use mathlib.Core.Path.{◌≡◌, refl, sym, ap, ◌∙◌}
 use mathlib.Core.Bool.{Bool, true, false}
 use mathlib.Core.List.{List, [], ◌∷◌, ◌++◌, nil≢cons}
 use mathlib.Core.Option.{Option, none, some}
 use native.Mathlib.Omega.{arith}
+use Rattle.std.specs.Prelude.{Some, Err}
 use lib.ListN.{length, get_or, set, drop}
+use Rattle.disk.specs.declared.AnodeNo.{AnodeNo}
 use Rattle.disk.specs.declared.Refusal.{Refusal}
 use Rattle.disk.specs.declared.Refusal.TheVariants.{NoFreeAnode}
 use Rattle.disk.specs.Refusals.{number_of}
@@ -17,7 +19,8 @@ use Rattle.rules.specs.Chains.{chain_of, system_owns, blocks_of}
 use Rattle.rules.specs.Walk.{reached_dirs}
 use Rattle.rules.specs.Accepted.{disk_size, last_reserved}
 use Rattle.rules.specs.Lookup.{no_directory}
-use Rattle.rules.specs.Plans.{Slotted, slotted, table_of, Growth}
+use Rattle.rules.specs.Plans.{Slotted, slotted, table_of, refused, Growth}
+use Rattle.rules.specs.Space.{with_spare}
 use Rattle.rules.specs.Tables.{owner_head, anode_table}
 use Rattle.rules.specs.Format.{new_directory_block}
 use Rattle.rules.specs.Table.{in_block, with_slot_table, with_table}
@@ -39,7 +42,6 @@ use Rattle.placing.specs.States.{GoodState}
 use Rattle.placing.proofs.Tables.{rewritten_tables}
 use Rattle.growing.specs.Grown.{SpareOf}
 use Rattle.making.specs.declared.MakePlan.{MakePlan}
-use Rattle.making.specs.declared.Planned.TheVariants.{Stopped}
 use Rattle.making.specs.Steps.{some_block, Begun, Plans, PlanOf}
 use Rattle.making.proofs.Steps.{no_block, one_block, own_data, parent_data, owners, made_is}
 
@@ -52,22 +54,19 @@ module _ {img counts firsts nexts : List ℕ} (l : Loaded img counts firsts next
   pub loaded_state : GoodState (last_reserved img) (table_from counts firsts nexts slots)
   loaded_state = rw table_is (good_state img (loaded_size l) (image-good l))
 
-  -- what it answers: f, and the tables
-  module _ (growth : Growth) (f : ℕ) (c b n slots' : List ℕ) (spare : SpareOf f growth (table_from counts firsts nexts slots) (table_from c b n slots')) where
-    -- with no anode to be had the make is refused
-    pub no_anode : (dir : Bool) (len h : ℕ) → limit ≤ f → PlanOf (Stopped NoFreeAnode) img growth dir len h (table_of img)
-    unfolding made
-    no_anode dir len h m = (omega arith, λ new d n. rw (rw table_is at (spare.cannot m)))
+  -- with no anode to be had the make is refused
+  pub no_anode : (growth : Growth) → with_spare limit growth (table_from counts firsts nexts slots) ≡ refused 28 → (dir : Bool) (len h : ℕ) → PlanOf (Err NoFreeAnode) img growth dir len h (table_of img)
+  unfolding made
+  no_anode growth spare dir len h = (omega arith, λ new d n. rw (rw table_is at spare))
 
-    -- else f is a fresh head, and with it the tables hold the state that the steps start from
-    pub begun_is : (h : ℕ) → no_directory img (anodes_of img) h ≡ false → f < limit → length c ≡ limit → length b ≡ limit → Begun img growth h f (table_from (set c f 0) (set b f 65535) n slots')
-    begun_is h reached below counted first =
-        let w = spare.within below in
-        record {
-          spared = table_from c b n slots';
-          fresh = record { parent = record { image = loaded_image l; reached = reached }; spares = rw table_is at w.0; lowest = w.1 };
-          state = ap (λ (s : Anodes). slotted s (slots_from slots')) (rewritten_tables c b n f 0 65535 (omega (arith, below, counted)) (omega (arith, below, first)));
-        }
+  -- else f is a fresh head, and with it the tables hold the state that the steps start from
+  pub begun_is : (growth : Growth) (f : AnodeNo) (c b n slots' : List ℕ) → SpareOf (Some f) growth (table_from counts firsts nexts slots) (table_from c b n slots') →
+      (h : ℕ) → no_directory img (anodes_of img) h ≡ false → length c ≡ limit → length b ≡ limit → Begun img growth h f.0 (table_from (set c f.0 0) (set b f.0 65535) n slots')
+  begun_is growth f c b n slots' spare h reached counted first = record {
+    spared = table_from c b n slots';
+    fresh = record { parent = record { image = loaded_image l; reached = reached }; spares = rw table_is at spare.1; lowest = spare.2 };
+    state = ap (λ (s : Anodes). slotted s (slots_from slots')) (rewritten_tables c b n f.0 0 65535 (omega (arith, spare.0, counted)) (omega (arith, spare.0, first)));
+  }
 
 module _ {img counts firsts nexts : List ℕ} (l : Loaded img counts firsts nexts) (h : ℕ) (reached : no_directory img (anodes_of img) h ≡ false) where
   abbrev home : ReachedDir img h
@@ -90,7 +89,7 @@ module _ {img counts firsts nexts : List ℕ} (l : Loaded img counts firsts next
 -- ---- the ends of a make
 
 -- refused in its planning it leaves everything
-pub stopped : (img : List ℕ) (growth : Growth) (h : ℕ) (new : NewEntry) (k : Refusal) → PlanOf (Stopped k) img growth new.dir (entry_length (length new.name) (length new.comment)) h (table_of img) → (b a : List ℕ) →
+pub stopped : (img : List ℕ) (growth : Growth) (h : ℕ) (new : NewEntry) (k : Refusal) → PlanOf (Err k) img growth new.dir (entry_length (length new.name) (length new.comment)) h (table_of img) → (b a : List ℕ) →
     Leaves (number_of k) img b a img b a (made growth img (table_of img) h new)
 stopped img growth h new k p b a = rw (p.1 new refl refl) (leaves_refused (number_of k) p.0 img b a)
 

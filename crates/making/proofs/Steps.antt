@@ -1,11 +1,14 @@
 -- Laws of the steps of a make: what each starts from, what both answer, and whose the blocks then are.
-use Prim.Native.Nat.{ℕ, ◌<◌}
+use Prim.Native.Nat.{ℕ, ◌+◌, ◌*◌, ◌<◌}
 use mathlib.Core.Path.{◌≡◌, refl, sym, ap, ◌∙◌}
 use mathlib.Core.Logic.{◌≢◌}
 use mathlib.Core.Bool.{Bool, true, false, cond}
 use mathlib.Core.List.{List, [], ◌∷◌}
 use mathlib.Core.Option.{Option}
 use native.Mathlib.Omega.{arith}
+use Rattle.std.specs.Prelude as std
+use mathlib.Core.Bool.{not}
+use Rattle.std.specs.Prelude.{Some, None, is_some, unwrap_or, Result, Ok, Err}
 use lib.ListN.{length}
 use lib.Dec.{leb}
 use borrow.Author.Tests.{eq-eqb, ne_eqb}
@@ -31,18 +34,16 @@ use Rattle.laws.specs.DirectoryTakes.{dir_head, dir_not-1}
 use Rattle.laws.specs.Orphan.{Orphaned}
 use Rattle.laws.specs.Make.{contents_unchanged, fresh_orphan}
 use Rattle.laws.specs.Items.{headed}
+use Rattle.edits.specs.Entries.{room_of}
 use Rattle.change_laws.specs.Answers.{step_late}
 use Rattle.change_laws.specs.Image.{head_in, accepted_whole, image-passed, reached-headed}
 use Rattle.change_laws.specs.MakePlan.{Fresh, fresh_moved, fresh_below, fresh_free, fresh_whole, fresh_start, needed_moved}
 use Rattle.change_laws.specs.Make.{needed_refused}
 use Rattle.change_tables.specs.Chains.{disk_state}
-use Rattle.placing.specs.declared.Step.{Step}
-use Rattle.placing.specs.declared.Step.TheVariants.{Moved as moved-block, Refused}
 use Rattle.placing.specs.Steps.{step_plan}
 use Rattle.placing.specs.States.{Ready}
 use Rattle.growing.specs.Grown.{growth_if}
 use Rattle.growing.proofs.States.{growth-if_grows}
-use Rattle.making.specs.declared.Planned.TheVariants.{Make, Stopped}
 use Rattle.making.specs.Steps.{some_block, needed_plan, PlanOf}
 
 pub no_block : (y : ℕ) → y ≡ 0 → some_block y ≡ []
@@ -52,6 +53,20 @@ no_block y z = rw (eq-eqb y 0 z)
 pub one_block : (y : ℕ) → y ≢ 0 → some_block y ≡ y ∷ []
 unfolding some_block
 one_block y n = rw (ne_eqb y 0 n)
+
+-- ---- the room that was found
+
+-- whether there is none
+pub full_is : (room : std.Option ℕ) (full : Bool) → is_some room ≡ not full → full ≡ no_room (room_of room)
+full_is (Some start) false e = refl
+full_is (Some start) true e = e
+full_is None false e = e
+full_is None true e = refl
+
+-- and the entry's place
+pub start_is : (room : std.Option ℕ) (parents : ℕ) → unwrap_or room (parents * 512 + 16) ≡ entry_start (room_of room) (parents ∷ [])
+start_is (Some start) parents = refl
+start_is None parents = refl
 
 -- ---- one step
 
@@ -65,10 +80,10 @@ late : (growth : Growth) (needed : Bool) (s : Slotted) (h k : ℕ) → needed_bl
 late growth needed s h k e = step_late k (needed_refused growth needed h k s e)
 
 -- in a good state a block that was taken is not 0
-pub step_taken : (b : Bool) {last : ℕ} {s : Slotted} {h : ℕ} → Ready last s h → (x : Step) (t : Slotted) → step_plan x 1 t ≡ take_block limit (growth_if b) true h s → needed_plan x t ≡ needed_block (growth_if b) true h s
+pub step_taken : (b : Bool) {last : ℕ} {s : Slotted} {h : ℕ} → Ready last s h → (x : Result BlockNo Refusal) (t : Slotted) → step_plan x 1 t ≡ take_block limit (growth_if b) true h s → needed_plan x t ≡ needed_block (growth_if b) true h s
 unfolding needed_block run
-step_taken b ready (Refused r) t e = e
-step_taken b {last} {s} {h} ready (moved-block y) t e =
+step_taken b ready (Err r) t e = e
+step_taken b {last} {s} {h} ready (Ok y) t e =
     let g = ready.0.good in
     let m = needed_moved (growth-if_grows b ready.0.n last) ready.0.start g h ready.1.0 ready.1.1 true t (y.0 ∷ []) (sym e) in
     let was = (moved_data g 1 h (y.0 ∷ []) m.0 m.1.good m.1.passed (λ i. ready.1.1 (sym i)) y.0 (first_in y.0 (y.0 ∷ []) refl)).1 in
@@ -171,17 +186,17 @@ module _ {img : List ℕ} {growth : Growth} {h : ℕ} {q : Slotted} {f : ℕ} (x
     made-room new d n = made_is new ∙ rw (n, sym found)
 
     -- the first step refused
-    pub first_stopped : (k : Refusal) → refused (number_of k) ≡ needed_block growth dir f (head_made q f) → PlanOf (Stopped k) img growth dir len h q
+    pub first_stopped : (k : Refusal) → refused (number_of k) ≡ needed_block growth dir f (head_made q f) → PlanOf (Err k) img growth dir len h q
     first_stopped k e = (late growth dir (head_made q f) f (number_of k) (sym e), λ new d n. made-room new d n ∙ rw (d, sym e))
 
-    module _ (y : BlockNo) (r : Slotted) (first : needed_plan (moved-block y) r ≡ needed_block growth dir f (head_made q f)) where
+    module _ (y : BlockNo) (r : Slotted) (first : needed_plan (Ok y) r ≡ needed_block growth dir f (head_made q f)) where
       -- the second step refused
-      pub next_stopped : (k : Refusal) → refused (number_of k) ≡ needed_block growth (no_room room) h r → PlanOf (Stopped k) img growth dir len h q
+      pub next_stopped : (k : Refusal) → refused (number_of k) ≡ needed_block growth (no_room room) h r → PlanOf (Err k) img growth dir len h q
       next_stopped k e = (late growth (no_room room) r h (number_of k) (sym e), λ new d n. made-room new d n ∙ rw (d, sym first, sym e))
 
       -- both done
-      pub both_taken : (z : BlockNo) (t : Slotted) → needed_plan (moved-block z) t ≡ needed_block growth (no_room room) h r → (start : ℕ) → start ≡ entry_start room (z.0 ∷ []) →
-          PlanOf (Make (record { fresh = record { 0 = f }; start = start; own = y; parents = z })) img growth dir len h t
+      pub both_taken : (z : BlockNo) (t : Slotted) → needed_plan (Ok z) t ≡ needed_block growth (no_room room) h r → (start : ℕ) → start ≡ entry_start room (z.0 ∷ []) →
+          PlanOf (Ok (record { fresh = record { 0 = f }; start = start; own = y; parents = z })) img growth dir len h t
       both_taken z t e start at = record {
         spared = q;
         fresh = x;

@@ -1,26 +1,24 @@
 -- What the steps of a make start from and what they answer, in the terms of the rules.
-use Rattle.std.specs.Prelude.{ℕ, ◌≡◌, Bool, cond, List, [], ◌∷◌, eqb, length}
+use Rattle.std.specs.Prelude.{ℕ, ◌≡◌, Bool, cond, List, [], ◌∷◌, Result, Ok, Err, eqb, length}
 use Rattle.std.proofs.Math.Option.{Option}
+use Rattle.disk.specs.declared.BlockNo.{BlockNo}
+use Rattle.disk.specs.declared.Refusal.{Refusal}
 use Rattle.disk.specs.Refusals.{number_of}
 use Rattle.directory.specs.Entries.{entry_length}
 use Rattle.rules.specs.Accepted.{PastDamage}
 use Rattle.rules.specs.Plans.{Slotted, table_of, Plan, refused, planned, Growth}
 use Rattle.rules.specs.Changes.{entry_start, head_made, NewEntry, left, made}
 use Rattle.change_laws.specs.MakePlan.{Fresh, MakeSteps}
-use Rattle.placing.specs.declared.Step.{Step}
-use Rattle.placing.specs.declared.Step.TheVariants.{Moved, Refused}
 use Rattle.making.specs.declared.MakePlan.{MakePlan}
-use Rattle.making.specs.declared.Planned.{Planned}
-use Rattle.making.specs.declared.Planned.TheVariants.{Make, Stopped}
 
 -- the blocks of a step that may need none: block 0 is the system's, and stands for none
 unfoldable pub some_block : ℕ → List ℕ
 some_block y = cond (eqb y 0) [] (y ∷ [])
 
 -- the plan that such a step answers
-abbrev pub needed_plan : Step → Slotted → Plan Slotted
-needed_plan (Moved y) t = planned t (some_block y.0)
-needed_plan (Refused r) t = refused (number_of r)
+abbrev pub needed_plan : Result BlockNo Refusal → Slotted → Plan Slotted
+needed_plan (Ok y) t = planned t (some_block y.0)
+needed_plan (Err r) t = refused (number_of r)
 
 -- s is the state that the steps of a make in the directory of h start from: that of img, grown if no anode was free, with f as a head
 pub record Begun (img : List ℕ) (growth : Growth) (h f : ℕ) (s : Slotted) : Type 0 where
@@ -37,7 +35,7 @@ pub record Plans (img : List ℕ) (growth : Growth) (dir : Bool) (len h : ℕ) (
   pub start : m.start ≡ entry_start room (m.parents.0 ∷ [])
 
 -- what the planning of a make answers: the plan, or a refusal of the whole make
-abbrev pub PlanOf : Planned → List ℕ → Growth → Bool → ℕ → ℕ → Slotted → Type 0
-PlanOf (Make m) img growth dir len h t = Plans img growth dir len h m t
-PlanOf (Stopped x) img growth dir len h t =
+abbrev pub PlanOf : Result MakePlan Refusal → List ℕ → Growth → Bool → ℕ → ℕ → Slotted → Type 0
+PlanOf (Ok m) img growth dir len h t = Plans img growth dir len h m t
+PlanOf (Err x) img growth dir len h t =
     (PastDamage (number_of x)) × ((new : NewEntry) → new.dir ≡ dir → entry_length (length new.name) (length new.comment) ≡ len → made growth img (table_of img) h new ≡ left (number_of x) img)

@@ -2,6 +2,7 @@
 #![tactic(auto)]
 
 ghost use Rattle.std.specs.Prelude.{true, false, List, [], ◌∷◌, ◌≡◌, ℕ, ◌≤◌, length};
+ghost use Rattle.disk.specs.Refusals.{answer_of};
 ghost use Rattle.disk.specs.Root.{slot_of};
 ghost use Rattle.directory.specs.Entries.{good_name, good_comment, is_dir, entry_length};
 ghost use Rattle.rules.specs.Anodes.{limit, anodes_of};
@@ -11,7 +12,7 @@ ghost use Rattle.rules.specs.Accepted.{disk_size, last_reserved};
 ghost use Rattle.rules.specs.Lookup.{no_directory};
 ghost use Rattle.rules.specs.Plans.{table_of, Growth};
 ghost use Rattle.rules.specs.Format.{new_directory_block};
-ghost use Rattle.rules.specs.Changes.{left, with_blocks, first_room, no_room, needed_block, parent_of, entry_start, new_entry, made_image, room_for, made};
+ghost use Rattle.rules.specs.Changes.{left, with_blocks, first_room, needed_block, parent_of, entry_start, new_entry, made_image, room_for, made};
 ghost use Rattle.laws.specs.Moves.{Grows};
 ghost use Rattle.laws.specs.OwnerTable.{set_all};
 ghost use Rattle.anodes.specs.Loaded.{slots_from, table_from, AnodeTables, Loaded};
@@ -23,12 +24,11 @@ ghost use Rattle.making.specs.Steps.{some_block, needed_plan, Begun, Plans, Plan
 
 use anode_blocks::{show_slots, store_slots};
 use chains::show_heads;
-use directory::{Kind, entry_len, is_directory};
-use disk::{AnodeNo, BlockNo, Refusal, number};
-use edits::{Room, first_room, put_header, put_new_entry, store_anodes};
+use directory::{Kind, entry_len};
+use disk::{AnodeNo, BlockNo, Refusal};
+use edits::{first_room, put_header, put_new_entry, store_anodes};
 use giving::copied;
 use growing::spare_anode;
-use placing::Step;
 use searches::slots_of;
 use tables::set_entry;
 use taking::take_block;
@@ -42,23 +42,6 @@ pub struct MakePlan {
     pub parents: BlockNo,
 }
 
-// What the planning of a make answers.
-#[derive(Clone, Copy)]
-pub enum Planned {
-    Make(MakePlan),
-    Stopped(Refusal),
-}
-
-// Whether no block of the directory has room.
-fn no_room(room: Room) -> bool
-    ensures { result ≡ no_room (room_of room) }
-{
-    match room {
-        Room::At(_) => false,
-        Room::Nowhere => true,
-    }
-}
-
 // Takes a block for the directory that `head` heads, where it needs one; block 0 where it does not. `growing`: whether slots may grow for it.
 fn take_needed(
     growing: bool,
@@ -68,7 +51,7 @@ fn take_needed(
     counts: &mut [u16],
     firsts: &mut [u16],
     nexts: &mut [u16],
-) -> Step
+) -> Result<BlockNo, Refusal>
     requires anode_tables { AnodeTables counts.old firsts.old nexts.old × (length slots.old ≡ 42) }
     requires by_index { (last : ℕ) × Ready last (table_from counts.old firsts.old nexts.old slots.old) head.0 }
     ensures { needed_plan result (table_from counts.new firsts.new nexts.new slots.new) ≡ needed_block (growth_if growing) needed head.0 (table_from counts.old firsts.old nexts.old slots.old) }
@@ -76,17 +59,14 @@ fn take_needed(
     if needed {
         return take_block(growing, slots, true, head, counts, firsts, nexts);
     }
-    Step::Moved(BlockNo(0))
+    Ok(BlockNo(0))
 }
 
 // Where the entry goes: the room that was found, else the first place of the parent's new block.
-fn start_for(room: Room, parents: BlockNo) -> usize
+fn start_for(room: Option<usize>, parents: BlockNo) -> usize
     ensures { result ≡ entry_start (room_of room) (parents.0 ∷ []) }
 {
-    match room {
-        Room::At(start) => start,
-        Room::Nowhere => (parents.0 as usize) * 512 + 16,
-    }
+    room.unwrap_or((parents.0 as usize) * 512 + 16)
 }
 
 // Takes the blocks of a make: one of its own for a directory that `fresh` heads, then one for its parent, where that has no room. `growing`: whether slots may grow for them.
@@ -94,37 +74,30 @@ fn take_blocks(
     growing: bool,
     slots: &mut [u16],
     kind: Kind,
-    room: Room,
+    room: Option<usize>,
     fresh: AnodeNo,
     head: AnodeNo,
     counts: &mut [u16],
     firsts: &mut [u16],
     nexts: &mut [u16],
-) -> Planned
+) -> Result<MakePlan, Refusal>
     requires anode_tables { AnodeTables counts.old firsts.old nexts.old × (length slots.old ≡ 42) }
     requires by_index { (img : List ℕ) × Begun img (growth_if growing) head.0 fresh.0 (table_from counts.old firsts.old nexts.old slots.old) }
     ensures { (img : List ℕ) (len : ℕ) → Begun img (growth_if growing) head.0 fresh.0 (table_from counts.old firsts.old nexts.old slots.old) → room_of room ≡ first_room img len (blocks_of (anodes_of img) head.0) → PlanOf result img (growth_if growing) (is_dir kind) len head.0 (table_from counts.new firsts.new nexts.new slots.new) }
 {
-    let first = take_needed(
+    let own = take_needed(
         growing,
         slots,
-        is_directory(kind),
+        kind.is_directory(),
         fresh,
         counts,
         firsts,
         nexts,
-    );
-    let own = match first {
-        Step::Moved(b) => b,
-        Step::Refused(r) => return Planned::Stopped(r),
-    };
-    let second = take_needed(growing, slots, no_room(room), head, counts, firsts, nexts);
-    let parents = match second {
-        Step::Moved(b) => b,
-        Step::Refused(r) => return Planned::Stopped(r),
-    };
+    )?;
+    let full = room.is_none();
+    let parents = take_needed(growing, slots, full, head, counts, firsts, nexts)?;
     let start = start_for(room, parents);
-    Planned::Make(MakePlan {
+    Ok(MakePlan {
         fresh,
         start,
         own,
@@ -143,16 +116,15 @@ pub fn plan_make(
     counts: &mut [u16],
     firsts: &mut [u16],
     nexts: &mut [u16],
-) -> Planned
+) -> Result<MakePlan, Refusal>
     requires loaded { Loaded image.now counts.old firsts.old nexts.old × (no_directory image.now (anodes_of image.now) head.0 ≡ false) }
     requires slots_value { (slots_from slots.old ≡ slot_of image.now) × (length slots.old ≡ 42) }
     ensures { PlanOf result image.now (growth_if growing) (is_dir kind) len head.0 (table_from counts.new firsts.new nexts.new slots.new) }
 {
     let room = first_room(image, firsts, nexts, head, len);
-    let fresh = spare_anode(growing, slots, counts, firsts, nexts);
-    if 3444 <= fresh.0 {
-        return Planned::Stopped(Refusal::NoFreeAnode);
-    }
+    let Some(fresh) = spare_anode(growing, slots, counts, firsts, nexts) else {
+        return Err(Refusal::NoFreeAnode);
+    };
     set_entry(counts, fresh.0 as usize, 0);
     set_entry(firsts, fresh.0 as usize, 65535);
     take_blocks(
@@ -242,17 +214,17 @@ pub fn make_entry(
     minute: u16,
     tick: u16,
     protection: u8,
-) -> u32
+) -> Result<(), Refusal>
     requires loaded { Loaded image.old counts.now firsts.now nexts.now × (3444 ≤ length anodes.old) }
     requires head_value { (no_directory image.old (anodes_of image.old) head.0 ≡ false) × (parent.0 ≡ parent_of (reached_dirs image.old (anodes_of image.old)) head.0) }
     requires name_value { (good_name name.now ≡ true) × (good_comment comment.now ≡ true) }
-    ensures { Leaves result image.old blocks.old anodes.old image.new blocks.new anodes.new (made (growth_if growing) image.old (table_of image.old) head.0 (new_entry (is_dir kind) name.now comment.now day minute tick protection)) }
+    ensures { Leaves (answer_of result) image.old blocks.old anodes.old image.new blocks.new anodes.new (made (growth_if growing) image.old (table_of image.old) head.0 (new_entry (is_dir kind) name.now comment.now day minute tick protection)) }
 {
     let mut new_counts = copied(counts);
     let mut new_firsts = copied(firsts);
     let mut new_nexts = copied(nexts);
     let mut slots = slots_of(image);
-    let planned = plan_make(
+    let plan = plan_make(
         growing,
         image,
         &mut slots,
@@ -262,11 +234,7 @@ pub fn make_entry(
         &mut new_counts,
         &mut new_firsts,
         &mut new_nexts,
-    );
-    let plan = match planned {
-        Planned::Make(plan) => plan,
-        Planned::Stopped(r) => return number(r),
-    };
+    )?;
     commit_make(
         image,
         blocks,
@@ -289,5 +257,5 @@ pub fn make_entry(
         tick,
         protection,
     );
-    0
+    Ok(())
 }

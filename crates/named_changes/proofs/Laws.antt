@@ -1,8 +1,9 @@
 -- What the changes by name answer and leave, from what the search found.
+use Rattle.std.specs.Prelude.{Option as Answer, Some, None, is_some, Result, Ok, Err}
 use Prim.Native.Nat.{ℕ, ◌≤◌}
 use mathlib.Core.Path.{◌≡◌, refl, sym, ap, ◌∙◌}
 use mathlib.Core.Logic.{inl, inr}
-use mathlib.Core.Bool.{Bool, true, false, cond, not, ◌||◌}
+use mathlib.Core.Bool.{Bool, true, false, cond, not, ◌||◌, true≢false, false≢true}
 use mathlib.Core.List.{List}
 use mathlib.Core.Option.{Option, none, some}
 use native.Mathlib.Omega.{arith}
@@ -12,8 +13,7 @@ use Rattle.disk.specs.declared.Refusal.{Refusal}
 use Rattle.disk.specs.Refusals.{number_of}
 use Rattle.directory.specs.declared.Kind.{Kind}
 use Rattle.directory.specs.declared.Kind.TheVariants.{File, Directory}
-use Rattle.directory.specs.declared.KindRead.{KindRead}
-use Rattle.directory.specs.declared.KindRead.TheVariants.{Is, Neither}
+use Rattle.directory.specs.declared.UnknownKind.{UnknownKind}
 use Rattle.directory.specs.Entries.{is_dir, kind_read, good_name, good_comment}
 use Rattle.rules.specs.Anodes.{Anodes, anodes_of}
 use Rattle.rules.specs.Chains.{blocks_of}
@@ -33,6 +33,8 @@ use Rattle.change_tables.specs.Leaves.{Leaves, ReachedEntry}
 use Rattle.change_tables.specs.Laws.{leaves_refused, leaves_same}
 use Rattle.change_tables.specs.Chains.{image-good, reached-entry, entry_known}
 use Rattle.contents.specs.Written.{InsideOnce}
+use Rattle.lookup.specs.declared.EntryAt.{EntryAt}
+use Rattle.lookup.specs.Answers.{entered, entry_of}
 use Rattle.find.proofs.Laws.{refused_some, not_done}
 
 -- ---- a write to a reached entry
@@ -67,27 +69,25 @@ module _ (img : List ℕ) (done : Left) where
   pub leaves_unmade : (n k : ℕ) → PastDamage k → n ≡ k → (b a : List ℕ) → Leaves k img b a img b a (left_after n img done)
   leaves_unmade n k l e b a = rw (e, not_done k (omega arith) done (left k img)) (leaves_refused k l img b a)
 
-  pub leaves_unchanged : (n : ℕ) → Late n → (r : Refusal) (k : ℕ) → k ≡ number_of r → n ≡ number_of r → (b a : List ℕ) → Leaves k img b a img b a (left_after n img done)
-  leaves_unchanged n late r k number is b a =
-      let e : n ≡ k = is ∙ sym number in
-      leaves_unmade n k (late_some n k late e (refused_some r k number)) e b a
+  pub leaves_unchanged : (n : ℕ) → Late n → (r : Refusal) → n ≡ number_of r → (b a : List ℕ) → Leaves (number_of r) img b a img b a (left_after n img done)
+  leaves_unchanged n late r is b a = leaves_unmade n (number_of r) (late_some n (number_of r) late is (refused_some r (number_of r) refl)) is b a
 
 -- ---- make
 
 -- whether a type byte was read, and as a directory's
-abbrev is_read : KindRead → Bool
-is_read (Is k) = true
-is_read Neither = false
+abbrev is_read : Result Kind UnknownKind → Bool
+is_read (Ok k) = true
+is_read (Err byte) = false
 
-abbrev dir_read : KindRead → Bool
-dir_read (Is k) = is_dir k
-dir_read Neither = false
+abbrev dir_read : Result Kind UnknownKind → Bool
+dir_read (Ok k) = is_dir k
+dir_read (Err byte) = false
 
 type_read : (type : ℕ) → is_read (kind_read type) ≡ (eqb type 253 || eqb type 2)
 unfolding kind_read
 type_read type = go (eqb type 253) (eqb type 2)
   where
-    go : (a b : Bool) → is_read (cond a (Is File) (cond b (Is Directory) Neither)) ≡ (a || b)
+    go : (a b : Bool) → is_read (cond a (Ok File) (cond b (Ok Directory) (Err (record { 0 = type })))) ≡ (a || b)
     go true b = refl
     go false true = refl
     go false false = refl
@@ -96,16 +96,16 @@ dir_read_lem : (type : ℕ) → dir_read (kind_read type) ≡ eqb type 2
 unfolding kind_read
 dir_read_lem type = elim (same? type 253) [ inl e ↦ rw e | inr n ↦ rw (ne_eqb type 253 n) (go (eqb type 2)) ]
   where
-    go : (b : Bool) → dir_read (cond b (Is Directory) Neither) ≡ b
+    go : (b : Bool) → dir_read (cond b (Ok Directory) (Err (record { 0 = type }))) ≡ b
     go true = refl
     go false = refl
 
 -- a byte that is no type's is refused, and of another the name and the comment are looked at
-pub wrong_type : (type : ℕ) (name comment : List ℕ) → kind_read type ≡ Neither → wrong_entry type name comment ≡ true
+pub wrong_type : (type : ℕ) (name comment : List ℕ) (byte : UnknownKind) → kind_read type ≡ Err byte → wrong_entry type name comment ≡ true
 unfolding wrong_entry
-wrong_type type name comment e = rw (sym (type_read type) ∙ ap is_read e)
+wrong_type type name comment byte e = rw (sym (type_read type) ∙ ap is_read e)
 
-module _ (type : ℕ) (k : Kind) (e : kind_read type ≡ Is k) where
+module _ (type : ℕ) (k : Kind) (e : kind_read type ≡ Ok k) where
   pub right_type : (name comment : List ℕ) → wrong_entry type name comment ≡ wrong_text name comment
   unfolding wrong_entry
   right_type name comment = rw (sym (type_read type) ∙ ap is_read e)
@@ -122,6 +122,15 @@ right_entry name comment e =
 -- the length test, either way round
 pub long_comment : (n : ℕ) → not (leb n 79) ≡ ltb 79 n
 long_comment n = elim (less? 79 n) [ inl l ↦ rw (lt-leb n 79 l, lt-ltb 79 n l) | inr l ↦ rw (le-leb n 79 l, le-ltb 79 n l) ]
+
+-- what is_some said of a lookup
+pub there_said : (img : List ℕ) (l : Answer EntryAt) → is_some l ≡ true → (x : Entered) × (entry_of img l ≡ some x)
+there_said img (Some e) is = (entered img e, refl)
+there_said img None is = absurd (false≢true is)
+
+pub none_said : (img : List ℕ) (l : Answer EntryAt) → is_some l ≡ false → entry_of img l ≡ none
+none_said img (Some e) is = absurd (true≢false is)
+none_said img None is = refl
 
 module _ (img : List ℕ) (s : Anodes) (h type : ℕ) (name comment : List ℕ) where
   pub make_wrong : wrong_entry type name comment ≡ true → make_refusal img s h type name comment ≡ 20

@@ -2,6 +2,7 @@
 #![tactic(auto)]
 
 ghost use Rattle.std.specs.Prelude.{not, ◌||◌, List, ◌≡◌, ℕ, ◌≤◌, eqb, length};
+ghost use Rattle.disk.specs.Refusals.{answer_of};
 ghost use Rattle.rules.specs.Anodes.{anodes_of};
 ghost use Rattle.rules.specs.Lookup.{entry_named};
 ghost use Rattle.rules.specs.Plans.{table_of};
@@ -11,10 +12,10 @@ ghost use Rattle.find.specs.Open.{Open, OpenAnodes};
 ghost use Rattle.change_tables.specs.Leaves.{Leaves};
 
 use contents::write_along;
-use directory::{KindRead, kind_of, name_ok};
-use disk::{AnodeNo, Refusal, number};
-use find::{Search, find_file, find_removable, find_span};
-use lookup::{Lookup, entry_named, is_reached, parent_of};
+use directory::{Kind, name_ok};
+use disk::{AnodeNo, Refusal};
+use find::{find_file, find_removable, find_span};
+use lookup::{entry_named, is_reached, parent_of};
 use making::make_entry;
 use removing::remove_entry;
 use resizing::resize_entry;
@@ -47,20 +48,16 @@ pub fn write_named(
     name: &[u8],
     offset: u64,
     bytes: &[u8],
-) -> u32
+) -> Result<(), Refusal>
     requires { OpenAnodes image.old counts.now firsts.now nexts.now queue.now heads.now dirs }
-    ensures { (b a : List ℕ) → Leaves result image.old b a image.new b a (change_named (span_refusal image.old (anodes_of image.old) head.0 name.now offset (length bytes.now)) image.old (entry_named image.old (anodes_of image.old) head.0 name.now) (λ e. left 0 (written image.old (anodes_of image.old) e offset bytes.now))) }
+    ensures { (b a : List ℕ) → Leaves (answer_of result) image.old b a image.new b a (change_named (span_refusal image.old (anodes_of image.old) head.0 name.now offset (length bytes.now)) image.old (entry_named image.old (anodes_of image.old) head.0 name.now) (λ e. left 0 (written image.old (anodes_of image.old) e offset bytes.now))) }
 {
     let len = bytes.len();
-    let found = find_span(
+    let e = find_span(
         image, firsts, nexts, queue, heads, dirs, head, name, offset, len,
-    );
-    let e = match found {
-        Search::Found(e) => e,
-        Search::Refused(r) => return number(r),
-    };
+    )?;
     write_along(image, counts, firsts, nexts, e.anode, offset, bytes);
-    0
+    Ok(())
 }
 
 // Resizes a file; 21, 22, 24, then 27 and 28.
@@ -76,15 +73,11 @@ pub fn resize_named(
     head: AnodeNo,
     name: &[u8],
     size: u64,
-) -> u32
+) -> Result<(), Refusal>
     requires { OpenAnodes image.old counts.now firsts.now nexts.now queue.now heads.old dirs × (3444 ≤ length heads.old) }
-    ensures { Leaves result image.old blocks.old heads.old image.new blocks.new heads.new (change_named (resize_refusal image.old (anodes_of image.old) head.0 name.now) image.old (entry_named image.old (anodes_of image.old) head.0 name.now) (λ e. resized usual_growth image.old (table_of image.old) e size)) }
+    ensures { Leaves (answer_of result) image.old blocks.old heads.old image.new blocks.new heads.new (change_named (resize_refusal image.old (anodes_of image.old) head.0 name.now) image.old (entry_named image.old (anodes_of image.old) head.0 name.now) (λ e. resized usual_growth image.old (table_of image.old) e size)) }
 {
-    let found = find_file(image, firsts, nexts, queue, heads, dirs, head, name);
-    let e = match found {
-        Search::Found(e) => e,
-        Search::Refused(r) => return number(r),
-    };
+    let e = find_file(image, firsts, nexts, queue, heads, dirs, head, name)?;
     resize_entry(true, image, blocks, heads, counts, firsts, nexts, e, size)
 }
 
@@ -100,15 +93,11 @@ pub fn remove_named(
     dirs: u16,
     head: AnodeNo,
     name: &[u8],
-) -> u32
+) -> Result<(), Refusal>
     requires { OpenAnodes image.old counts.now firsts.now nexts.now queue.now heads.old dirs × (3444 ≤ length heads.old) }
-    ensures { Leaves result image.old blocks.old heads.old image.new blocks.new heads.new (change_named (remove_refusal image.old (anodes_of image.old) head.0 name.now) image.old (entry_named image.old (anodes_of image.old) head.0 name.now) (λ e. removed usual_growth image.old (table_of image.old) e)) }
+    ensures { Leaves (answer_of result) image.old blocks.old heads.old image.new blocks.new heads.new (change_named (remove_refusal image.old (anodes_of image.old) head.0 name.now) image.old (entry_named image.old (anodes_of image.old) head.0 name.now) (λ e. removed usual_growth image.old (table_of image.old) e)) }
 {
-    let found = find_removable(image, firsts, nexts, queue, heads, dirs, head, name);
-    let e = match found {
-        Search::Found(e) => e,
-        Search::Refused(r) => return number(r),
-    };
+    let e = find_removable(image, firsts, nexts, queue, heads, dirs, head, name)?;
     remove_entry(true, image, blocks, heads, counts, firsts, nexts, e)
 }
 
@@ -116,10 +105,7 @@ pub fn remove_named(
 pub fn wrong_entry(name: &[u8], comment: &[u8]) -> bool
     ensures { result ≡ wrong_text name.now comment.now }
 {
-    if !name_ok(name) {
-        return true;
-    }
-    79 < comment.len()
+    !name_ok(name) || 79 < comment.len()
 }
 
 // Makes a file or a directory; 20, 21, 23, then 27 and 28.
@@ -141,23 +127,21 @@ pub fn make_named(
     minute: u16,
     tick: u16,
     protection: u8,
-) -> u32
+) -> Result<(), Refusal>
     requires { Open image.old counts.now firsts.now nexts.now queue.now parents.now heads.old dirs × (3444 ≤ length heads.old) }
-    ensures { Leaves result image.old blocks.old heads.old image.new blocks.new heads.new (left_after (make_refusal image.old (anodes_of image.old) head.0 kind name.now comment.now) image.old (made usual_growth image.old (table_of image.old) head.0 (new_entry (eqb kind 2) name.now comment.now day minute tick protection))) }
+    ensures { Leaves (answer_of result) image.old blocks.old heads.old image.new blocks.new heads.new (left_after (make_refusal image.old (anodes_of image.old) head.0 kind name.now comment.now) image.old (made usual_growth image.old (table_of image.old) head.0 (new_entry (eqb kind 2) name.now comment.now day minute tick protection))) }
 {
-    let read = kind_of(kind);
-    let KindRead::Is(k) = read else {
-        return number(Refusal::BadArgument);
+    let Ok(k) = Kind::try_from(kind) else {
+        return Err(Refusal::BadArgument);
     };
     if wrong_entry(name, comment) {
-        return number(Refusal::BadArgument);
+        return Err(Refusal::BadArgument);
     }
     if !is_reached(heads, queue, dirs, head) {
-        return number(Refusal::NoDirectory);
+        return Err(Refusal::NoDirectory);
     }
-    let found = entry_named(image, firsts, nexts, head, name);
-    if let Lookup::Found(_) = found {
-        return number(Refusal::AlreadyThere);
+    if entry_named(image, firsts, nexts, head, name).is_some() {
+        return Err(Refusal::AlreadyThere);
     }
     let parent = parent_of(queue, parents, dirs, head);
     make_entry(

@@ -28,10 +28,8 @@ fn hash(name: &[u8]) -> u64
     ensures { (result ≡ hash_of (folded name.now)) × (result < 268435456) }
 {
     let mut h: u64 = 0;
-    let mut i = 0;
-    while i < name.len() {
-        h = (h * 31 + (fold(name[i]) as u64)) % 268435456;
-        i += 1;
+    for b in name {
+        h = (h * 31 + fold(*b) as u64) % 268435456;
     }
     h
 }
@@ -55,6 +53,7 @@ fn last_same(image: &[u8], index: &[u16], name: &[u8], print: u16, from: usize, 
     ensures { result ≡ last_below (is_same image.now index.now from (folded name.now)) first }
 {
     let mut x = first as usize;
+    // a while loop, for the links of the bucket give the next entry
     while from < x {
         let j = x - 1;
         if same_at(image, index, name, print, j) {

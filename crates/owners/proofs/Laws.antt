@@ -3,12 +3,15 @@ use mathlib.Core.Path.{◌≡◌, refl, sym, ◌∙◌}
 use mathlib.Core.Logic.{◌≢◌, ⊎_elim, inl, inr}
 use mathlib.Core.Bool.{Bool, false, not, or-false}
 use mathlib.Core.List.{List}
-use Prim.Native.Nat.{ℕ, ◌+◌, ◌*◌, ◌<◌, ◌≤◌}
+use Prim.Native.Nat.{ℕ, ◌+◌, ◌*◌, ◌-◌, ◌<◌, ◌≤◌}
 use native.Mathlib.Omega.{arith}
 use native.Mathlib.Numerals.{add-one}
 use lib.Dec.{eqb}
-use lib.ListN.{length, get_or, set, drop, length-drop}
-use lib.Seq.{get_or-set_same, get_or-set_other, get_or-drop, ext_get_or}
+use lib.ListN.{length, get_or, take, drop, replicate, length-drop, length-replicate}
+use lib.Seq.{get_or-drop, length-take-le, ext_get_or}
+use borrow.Rule.Slice.PartMut.{put_mid}
+use Rattle.std.proofs.lemmas.List.{get_or-take, get_or-replicate, get_or_append_left, get_or-append_right}
+use Rattle.laws.specs.Tests.{less?}
 use borrow.Author.Tests.{eqb-true, eq-eqb, ne_eqb}
 use Rattle.endian.proofs.Laws.{same?}
 use Rattle.rules.specs.Counting.{any_below}
@@ -19,7 +22,7 @@ use Rattle.owners.specs.Marks.{KeptOutside, RunFilled, RunHit, RunHolds, RunTest
 
 -- ---- a run
 
-pub run_none : (t : List ℕ) (first mark : ℕ) → RunHolds t first first mark
+run_none : (t : List ℕ) (first mark : ℕ) → RunHolds t first first mark
 run_none t first mark = record { each = λ x l m. absurd (omega arith) }
 
 -- a sum of marks is 0 if no block of the run is marked, and only then
@@ -47,18 +50,39 @@ summed_tested sum t first end s = elim (same? sum 0) [
   | inr n ↦ rw (ne_eqb sum 0 n) (s.some n)
 ]
 
-pub run_more : (t : List ℕ) (first i mark : ℕ) → RunHolds t first i mark → i < length t → RunHolds (set t i mark) first (i + 1) mark
-run_more t first i mark run room = record {
-  each = λ x l m. ⊎_elim (λ e. rw e (get_or-set_same t i mark 0 room)) (λ n. get_or-set_other t i x mark 0 n ∙ run.each x l (omega arith)) (same? x i);
-}
+-- a run filled in place of what stood there
+module _ (t part : List ℕ) (first count n mark : ℕ) (whole : n ≡ count) (filled : part ≡ replicate count mark) (room : first + count ≤ length t) where
+  before : length (take first t) ≡ first
+  before = length-take-le first t (omega arith)
+
+  within : length part ≡ count
+  within = rw filled (length-replicate count mark)
+
+  pub filled_run : RunHolds (put_mid first n t part) first (first + count) mark
+  filled_run = record {
+    each = λ x l m. get_or-append_right (take first t) _ first x 0 before l
+        ∙ get_or_append_left part _ 0 (x - first) (omega (arith, within))
+        ∙ rw filled (get_or-replicate count (x - first) mark 0 (omega arith));
+  }
+
+  pub kept_run : KeptOutside t (put_mid first n t part) first (first + count)
+  kept_run = record {
+    outside = λ x out. elim (less? x first) [
+      | inl l ↦ get_or_append_left (take first t) _ 0 x (omega (arith, before)) ∙ get_or-take first t x 0 l
+      | inr l ↦ get_or-append_right (take first t) _ first x 0 before l ∙ get_or-append_right part _ count (x - first) 0 within (past x l out) ∙ after x l (past x l out)
+    ];
+  }
+    where
+      past : (x : ℕ) → first ≤ x → (first ≤ x → x < first + count → ⊥) → count ≤ x - first
+      past x l out = elim (less? x (first + count)) [ inl m ↦ absurd (out l m) | inr m ↦ omega arith ]
+
+      after : (x : ℕ) → first ≤ x → count ≤ x - first → get_or (drop n (drop first t)) (x - first - count) 0 ≡ get_or t x 0
+      after x l m =
+          let e : first + (n + (x - first - count)) ≡ x = omega arith in
+          get_or-drop n (drop first t) (x - first - count) 0 ∙ get_or-drop first t (n + (x - first - count)) 0 ∙ rw e
 
 pub kept-none : (t : List ℕ) (first end : ℕ) → KeptOutside t t first end
 kept-none t first end = record { outside = λ x out. refl }
-
-pub kept_more : (old t : List ℕ) (first i : ℕ) → KeptOutside old t first i → first ≤ i → (mark : ℕ) → KeptOutside old (set t i mark) first (i + 1)
-kept_more old t first i kept from mark = record {
-  outside = λ x out. get_or-set_other t i x mark 0 (λ e. out (omega arith) (omega arith)) ∙ kept.outside x (λ p q. out p (omega arith));
-}
 
 -- a run within the first n blocks leaves the table from there on
 pub kept-drop : (old t : List ℕ) (first count n : ℕ) → KeptOutside old t first (first + count) → (0 < count → first + count ≤ n)

@@ -18,12 +18,11 @@ fn any_marked(blocks: &[u16], first: BlockNo, count: u16) -> bool
     requires { 0 < count → first.0 + count ≤ length blocks.now }
     ensures { RunTested result blocks.now first.0 (first.0 + count) }
 {
+    let start = first.0 as usize;
+    let end = start + count as usize;
     let mut sum: u32 = 0;
-    let mut i = first.0 as usize;
-    let end = i + count as usize;
-    while i < end {
+    for i in start..end {
         sum += blocks[i] as u32;
-        i += 1;
     }
     sum != 0
 }
@@ -34,12 +33,11 @@ fn fill_run(blocks: &mut [u16], first: BlockNo, count: u16, mark: u16)
     ensures run { RunHolds blocks.new first.0 (first.0 + count) mark }
     ensures kept { KeptOutside blocks.old blocks.new first.0 (first.0 + count) }
 {
-    let mut i = first.0 as usize;
-    let end = i + count as usize;
-    while i < end {
-        blocks[i] = mark;
-        i += 1;
+    if count == 0 {
+        return;
     }
+    let start = first.0 as usize;
+    blocks[start..start + count as usize].fill(mark);
 }
 
 // Marks the `count` blocks from `first` upward; true if one of them is marked already.

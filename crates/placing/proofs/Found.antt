@@ -1,23 +1,27 @@
 -- The anode that a search finds in good anodes, its first block out of it, and what a step answers.
 use Prim.Native.Nat.{ℕ, ◌+◌, ◌<◌}
-use mathlib.Core.Path.{◌≡◌, refl, sym, ◌∙◌}
+use mathlib.Core.Path.{◌≡◌, refl, sym, ap, ◌∙◌}
 use mathlib.Core.Logic.{◌≢◌, inl, inr}
 use mathlib.Core.Bool.{Bool}
 use mathlib.Core.List.{List}
 use native.Mathlib.Omega.{arith}
+use Rattle.std.specs.Result.{IsErrAnd}
+use Rattle.std.proofs.lemmas.Result.{err_from_is_err_and}
+use Rattle.std.specs.Prelude.{Option, Some, None, Result, Ok, Err, ok_or}
+use Rattle.disk.specs.declared.BlockNo.{BlockNo}
 use Rattle.disk.specs.declared.Refusal.{Refusal}
 use Rattle.rules.specs.Anodes.{Anodes}
 use Rattle.rules.specs.Chains.{cut}
 use Rattle.rules.specs.Plans.{Slotted, slotted, at_slots}
-use Rattle.rules.specs.Space.{found, free_extent, without_run, without_first}
+use Rattle.rules.specs.Space.{nowhere, found, free_extent, without_run, without_first}
 use Rattle.laws.specs.Links.{next_below}
 use Rattle.laws.specs.Cut.{cut_cases}
 use Rattle.laws.specs.Space.{Good}
 use Rattle.laws.specs.Searches.{FoundIn}
 use Rattle.laws.specs.Owners.{full_used, full_inside, full-0}
 use Rattle.laws.specs.FreeExtent.{extent-found}
-use Rattle.placing.specs.declared.Step.{Step}
-use Rattle.placing.specs.declared.Step.TheVariants.{Moved, Refused}
+use Rattle.searches.specs.declared.Extent.{Extent}
+use Rattle.searches.specs.Found.{found_of}
 use Rattle.placing.specs.Steps.{step_plan, UnlessMoved}
 use Rattle.placing.specs.States.{GoodState}
 
@@ -47,11 +51,31 @@ unfolding without_first
 first_out s p x b e = rw e
 
 -- a step at fixed slots answers a plan of the anodes and slots
-pub step_slots : (slots : ℕ → ℕ) (r : Step) (c : ℕ) (t : Anodes) → at_slots slots (step_plan r c t) ≡ step_plan r c (slotted t slots)
+pub step_slots : (slots : ℕ → ℕ) (r : Result BlockNo Refusal) (c : ℕ) (t : Anodes) → at_slots slots (step_plan r c t) ≡ step_plan r c (slotted t slots)
 unfolding at_slots
-step_slots slots (Moved y) c t = refl
-step_slots slots (Refused x) c t = refl
+step_slots slots (Ok y) c t = refl
+step_slots slots (Err x) c t = refl
 
 -- a refused step has left what it was lent
-pub left_so : (r : Step) (s t : Anodes) → UnlessMoved r s t → (why : Refusal) → r ≡ Refused why → t ≡ s
-left_so r s t u why e = let h : UnlessMoved (Refused why) s t = rw e at u in h
+pub left_so : (r : Result BlockNo Refusal) (s t : Anodes) → UnlessMoved r s t → (why : Refusal) → r ≡ Err why → t ≡ s
+left_so r s t u why e = let h : UnlessMoved (Err why) s t = rw e at u in h
+
+-- an extent that is found, where none is a refusal
+module _ (o : Option Extent) (r : Result Extent Refusal) (why : Refusal) (e : r ≡ ok_or o why) where
+  pub some_found : (x : Extent) → r ≡ Ok x → found_of o ≡ found x.before.0 x.anode.0
+  some_found x q = go o (sym e ∙ q)
+    where
+      go : (o : Option Extent) → ok_or o why ≡ Ok x → found_of o ≡ found x.before.0 x.anode.0
+      go None k = cc
+      go (Some y) k = let h : y ≡ x = cc in rw h
+
+  pub none_found : (w : Refusal) → r ≡ Err w → (found_of o ≡ nowhere) × (w ≡ why)
+  none_found w q = go o (sym e ∙ q)
+    where
+      go : (o : Option Extent) → ok_or o why ≡ Err w → (found_of o ≡ nowhere) × (w ≡ why)
+      go None k = (refl, cc)
+      go (Some y) k = cc
+
+-- a refusal that is passed on as it is
+pub passed_on : {X : Type 0} (r : Result X Refusal) (w : Refusal) → IsErrAnd r (λ y. y ≡ w) → r ≡ Err w
+passed_on r w e = let p = err_from_is_err_and r e in p.1 ∙ ap Err p.2

@@ -7,45 +7,11 @@ ghost use Rattle.rules.specs.Chains.{run};
 ghost use Rattle.rules.specs.Plans.{planned};
 ghost use Rattle.rules.specs.Space.{rewritten, inserted_after, unlinked, without_run, append, put, join, join_with};
 ghost use Rattle.anodes.specs.Loaded.{anodes_from, slots_from, AnodeTables};
-ghost use Rattle.placing.specs.Steps.{step_plan, UnlessMoved, stopped_by, moves_number, Grows};
+ghost use Rattle.placing.specs.Steps.{step_plan, UnlessMoved, Grows};
 
-use disk::{AnodeNo, BlockNo, Refusal, number};
+use disk::{AnodeNo, BlockNo, Refusal};
 use searches::lowest_free;
 use tables::{entry, set_entry};
-
-// What a step answers: the first of the blocks that changed hands, or the refusal.
-#[derive(Clone, Copy)]
-pub enum Step {
-    Moved(BlockNo),
-    Refused(Refusal),
-}
-
-// What a run of steps answers: done, or the refusal that stopped it.
-#[derive(Clone, Copy)]
-pub enum Moves {
-    Done,
-    Stopped(Refusal),
-}
-
-// The answer of a run that a refused step stops.
-pub fn stopped(step: Step) -> Moves
-    ensures { result ≡ stopped_by step }
-{
-    match step {
-        Step::Moved(_) => Moves::Done,
-        Step::Refused(r) => Moves::Stopped(r),
-    }
-}
-
-// The number that a run of steps answers: 0 where it is done, else the refusal's.
-pub fn moves_number(moves: Moves) -> u32
-    ensures { result ≡ moves_number moves }
-{
-    match moves {
-        Moves::Done => 0,
-        Moves::Stopped(r) => number(r),
-    }
-}
 
 // Makes anode `a` hold `count` blocks from `first` on; its next stays.
 pub fn rewrite(counts: &mut [u16], firsts: &mut [u16], a: AnodeNo, count: u16, first: BlockNo)
@@ -95,17 +61,17 @@ fn append(
     counts: &mut [u16],
     firsts: &mut [u16],
     nexts: &mut [u16],
-) -> Step
+) -> Result<BlockNo, Refusal>
     requires { (z.0 < 3444) × AnodeTables counts.old firsts.old nexts.old }
     ensures plan { step_plan result count (anodes_from counts.new firsts.new nexts.new) ≡ append 3444 (exists_by (slots_from slots.now)) (anodes_from counts.old firsts.old nexts.old) z.0 count first.0 }
     ensures unmoved { UnlessMoved result (anodes_from counts.old firsts.old nexts.old) (anodes_from counts.new firsts.new nexts.new) }
 {
     let f = lowest_free(slots, firsts).anode;
     if 3444 <= f.0 {
-        return Step::Refused(Refusal::NoFreeAnode);
+        return Err(Refusal::NoFreeAnode);
     }
     insert_after(counts, firsts, nexts, z, f, count, first);
-    Step::Moved(first)
+    Ok(first)
 }
 
 // Puts block `y` behind the blocks of a chain whose last anode is `z`; `dir`: into an anode of its own.
@@ -117,7 +83,7 @@ pub fn put(
     counts: &mut [u16],
     firsts: &mut [u16],
     nexts: &mut [u16],
-) -> Step
+) -> Result<BlockNo, Refusal>
     requires { (z.0 < 3444) × AnodeTables counts.old firsts.old nexts.old × (get_or firsts.old z.0 0 ≢ 0) }
     ensures plan { step_plan result 1 (anodes_from counts.new firsts.new nexts.new) ≡ put 3444 dir z.0 y.0 (exists_by (slots_from slots.now)) (anodes_from counts.old firsts.old nexts.old) }
     ensures unmoved { UnlessMoved result (anodes_from counts.old firsts.old nexts.old) (anodes_from counts.new firsts.new nexts.new) }
@@ -125,13 +91,13 @@ pub fn put(
     let count = entry(counts, z.0 as usize);
     if count == 0 {
         rewrite(counts, firsts, z, 1, y);
-        return Step::Moved(y);
+        return Ok(y);
     }
     let first = entry(firsts, z.0 as usize);
     let end = first as u32 + count as u32;
     if !dir && end == y.0 as u32 {
         rewrite(counts, firsts, z, count + 1, BlockNo(first));
-        return Step::Moved(y);
+        return Ok(y);
     }
     append(slots, z, 1, y, counts, firsts, nexts)
 }
@@ -194,7 +160,7 @@ pub fn join(
     counts: &mut [u16],
     firsts: &mut [u16],
     nexts: &mut [u16],
-) -> Step
+) -> Result<BlockNo, Refusal>
     requires z_bound { (z.0 < 3444) × AnodeTables counts.old firsts.old nexts.old }
     requires z_bound_2 { (0 < get_or counts.old z.0 0 → get_or firsts.old z.0 0 + get_or counts.old z.0 0 ≤ 65535) × (first.0 + count ≤ 65535) }
     ensures plan { step_plan result count (anodes_from counts.new firsts.new nexts.new) ≡ join 3444 z.0 count first.0 (exists_by (slots_from slots.now)) (anodes_from counts.old firsts.old nexts.old) }
@@ -204,7 +170,7 @@ pub fn join(
         return append(slots, z, count, first, counts, firsts, nexts);
     }
     if grow(z, count, first, counts, firsts) {
-        return Step::Moved(first);
+        return Ok(first);
     }
     append(slots, z, count, first, counts, firsts, nexts)
 }

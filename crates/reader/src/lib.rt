@@ -1,67 +1,75 @@
-// A reader holds a directory block and a place in it together, and steps from entry to entry.
+// The entries of a directory block one after the other: a reader holds the block and a place in it together.
 #![tactic(auto)]
 
 ghost use Rattle.std.specs.Prelude.{◌≡◌};
-ghost use Rattle.directory.specs.Entries.{walked_at};
-ghost use Rattle.reader.specs.Reads.{place_after, entry_read};
+ghost use Rattle.std.specs.Iterator.{at_most};
+ghost use Rattle.reader.specs.Reads.{place_after, Reads};
 
-use directory::{Walked, entry_at};
+use directory::{Entry, entry_at};
+use disk::Refusal;
 
-// A directory block and a place in it.
+// A directory block, a place in it, and how many entries may still come.
 #[derive(Clone, Copy)]
 pub struct Reader<'a> {
     block: &'a [u8],
     at: usize,
+    left: usize,
 }
 
-// What a reader reads: what stands at its place, and the place behind it.
+// An entry and its place in its block.
 #[derive(Clone, Copy)]
 pub struct EntryRead {
-    pub walked: Walked,
-    pub after: usize,
+    pub at: usize,
+    pub entry: Entry,
 }
 
-// The place behind what stands at a place of a directory block; past the end of the block the same place.
-fn place_after(block: &[u8], at: usize) -> usize
-    ensures { result ≡ place_after block.now at }
-{
-    if block.len() <= at {
-        return at;
+impl<'a> Reader<'a> {
+    // A reader of a block's entries, from 16 on; 27 of the shortest fill it.
+    pub fn of(block: &'a [u8]) -> Reader<'a>
+        ensures { (result.block ≡ block.entry) × (result.at ≡ 16) × (result.left ≡ 28) }
+    {
+        Reader {
+            block,
+            at: 16,
+            left: 28,
+        }
     }
-    at + (block[at] as usize)
-}
 
-// A reader at a place of a directory block.
-fn reader_at<'a>(block: &'a [u8], at: usize) -> Reader<'a>
-    ensures { (result.block ≡ block.entry) × (result.at ≡ at) }
-{
-    Reader { block, at }
-}
-
-// What stands at the reader's place.
-fn here<'a>(r: Reader<'a>) -> Walked
-    ensures { result ≡ walked_at r.entry.block.now r.entry.at }
-{
-    entry_at(r.block, r.at)
-}
-
-// The reader behind what stands at its place.
-fn next<'a>(r: Reader<'a>) -> Reader<'a>
-    ensures { (result.block ≡ r.entry.block) × (result.at ≡ place_after r.entry.block.now r.entry.at) }
-{
-    Reader {
-        block: r.block,
-        at: place_after(r.block, r.at),
+    // The place behind what stands at the reader's place; past the end of the block the same place.
+    fn behind(&self) -> usize
+        ensures { result ≡ place_after self.now.block.now self.now.at }
+    {
+        if self.block.len() <= self.at {
+            return self.at;
+        }
+        self.at + (self.block[self.at] as usize)
     }
 }
 
-// What stands at a place of a directory block, and the place behind it.
-pub fn read_entry(block: &[u8], at: usize) -> EntryRead
-    ensures { result ≡ entry_read block.now at }
-{
-    let r = reader_at(block, at);
-    EntryRead {
-        walked: here(r),
-        after: next(r).at,
+// The entries from the reader's place on, up to the end mark or the first fault.
+impl<'a> Iterator for Reader<'a> {
+    type Item = Result<EntryRead, Refusal>;
+
+    ghost next_gives = { Reads };
+
+    ghost remaining = { λ r. at_most r.left };
+
+    fn next(&mut self) -> Option<Result<EntryRead, Refusal>> {
+        if self.left == 0 {
+            return None;
+        }
+        let at = self.at;
+        match entry_at(self.block, at) {
+            Ok(Some(entry)) => {
+                self.at = self.behind();
+                self.left -= 1;
+                Some(Ok(EntryRead { at, entry }))
+            }
+            Ok(None) => None,
+            Err(fault) => {
+                self.left = 0;
+                Some(Err(fault))
+            }
+        }
     }
 }

@@ -12,13 +12,15 @@ use Rattle.directory.specs.Entries.{name_in, name_length, entry_length}
 use Rattle.rules.specs.Anodes.{Anodes, anodes_of}
 use Rattle.rules.specs.Walk.{Entered, blocks_for}
 use Rattle.rules.specs.Accepted.{disk_size}
-use Rattle.rules.specs.Lookup.{no_directory, entries_of, name_at, bytes_of, contents}
-use Rattle.rules.specs.Calls.{done_or, bytes_read}
+use Rattle.rules.specs.Lookup.{no_directory, entries_of, entry_named, nth, name_at, bytes_of, contents}
+use Rattle.rules.specs.Calls.{done_or, bytes_read, list_refusal}
 use Rattle.laws.specs.Acceptance.{size_bounds}
 use Rattle.laws.specs.Each.{Member}
+use Rattle.looks.specs.Laws.{find_reached}
+use Rattle.change_laws.specs.Answers.{list_reached, search_number}
 use Rattle.change_laws.specs.Image.{accepted_own, image-passed}
 use Rattle.change_laws.specs.FoundEntries.{standing_found}
-use Rattle.change_laws.specs.Reached.{EntryIn, entry-facts}
+use Rattle.change_laws.specs.Reached.{EntryIn, entry-facts, nth-member, named-member}
 use Rattle.change_laws.specs.Read.{bytes_long}
 use Rattle.find.specs.Open.{Open}
 use Rattle.reading.specs.Parts.{NameStands}
@@ -66,6 +68,15 @@ module _ {img counts firsts nexts queue parents heads : List ℕ} {dirs : ℕ} (
   pub file_long : e.dir ≡ false → e.size ≤ length (bytes_of img (anodes_of img) e.anode)
   unfolding blocks_for
   file_long f = omega (arith, bytes_long open_entry f)
+
+module _ {img counts firsts nexts queue parents heads : List ℕ} {dirs : ℕ} (o : Open img counts firsts nexts queue parents heads dirs) (h : ℕ) (e : Entered) where
+  -- an entry that a list finds
+  pub listed-entry : (n : ℕ) → list_refusal img (anodes_of img) h n ≡ 0 → nth (entries_of img (anodes_of img) h) n ≡ some e → EntryIn img h e
+  listed-entry n z is = open_entry o h (list_reached img (anodes_of img) h n z) e (nth-member _ _ _ is)
+
+  -- or a name
+  pub named_entry : (name : List ℕ) → search_number (no_directory img (anodes_of img) h) (entry_named img (anodes_of img) h name) ≡ 0 → entry_named img (anodes_of img) h name ≡ some e → EntryIn img h e
+  named_entry name z is = open_entry o h (find_reached img (anodes_of img) h name z) e (named-member _ _ _ _ _ is)
 
 -- ---- a done read
 

@@ -1,7 +1,8 @@
 // Reads a file, lists an entry and finds one by name in an accepted image.
 #![tactic(auto)]
 
-ghost use Rattle.std.specs.Prelude.{◌≡◌, ◌+◌, ◌*◌, ◌<◌, length, get_or};
+ghost use Rattle.std.specs.Prelude.{IfOk, ◌≡◌, ◌+◌, ◌*◌, ◌<◌, length, get_or};
+ghost use Rattle.disk.specs.Refusals.{answer_of};
 ghost use Rattle.rules.specs.Anodes.{anodes_of};
 ghost use Rattle.rules.specs.Lookup.{entry_named, entries_of, name_at, nth};
 ghost use Rattle.rules.specs.Calls.{span_refusal, bytes_read, list_refusal, fields_at, fields_listed, name_listed};
@@ -10,9 +11,9 @@ ghost use Rattle.find.specs.Open.{OpenAnodes, OpenFor};
 ghost use Rattle.reading.specs.Parts.{StartsAt, NameStands};
 
 use contents::copy_out;
-use disk::{AnodeNo, BlockNo, block_part, number};
+use disk::{AnodeNo, BlockNo, Refusal, block_part};
 use endian::{read8, read16, read32};
-use find::{Search, find_named, find_nth, find_span};
+use find::{find_named, find_nth, find_span};
 
 // Fills the buffer with the file's bytes from the offset on; 21, 22, 24, 26.
 pub fn read_named(
@@ -27,21 +28,25 @@ pub fn read_named(
     name: &[u8],
     offset: u64,
     out: &mut [u8],
-) -> u32
+) -> Result<(), Refusal>
     requires { OpenAnodes image.now counts.now firsts.now nexts.now queue.now heads.now dirs }
-    ensures answer { result ≡ span_refusal image.now (anodes_of image.now) head.0 name.now offset (length out.old) }
-    ensures output { out.new ≡ bytes_read result image.now (anodes_of image.now) (entry_named image.now (anodes_of image.now) head.0 name.now) offset out.old }
+    ensures answer { answer_of result ≡ span_refusal image.now (anodes_of image.now) head.0 name.now offset (length out.old) }
+    ensures output { out.new ≡ bytes_read (answer_of result) image.now (anodes_of image.now) (entry_named image.now (anodes_of image.now) head.0 name.now) offset out.old }
 {
-    let len = out.len();
-    let found = find_span(
-        image, firsts, nexts, queue, heads, dirs, head, name, offset, len,
-    );
-    let e = match found {
-        Search::Found(e) => e,
-        Search::Refused(r) => return number(r),
-    };
+    let e = find_span(
+        image,
+        firsts,
+        nexts,
+        queue,
+        heads,
+        dirs,
+        head,
+        name,
+        offset,
+        out.len(),
+    )?;
     copy_out(image, counts, firsts, nexts, e.anode, offset, out);
-    0
+    Ok(())
 }
 
 // The name of the entry at a place of the image, as a part of it that starts 16 bytes into the entry.
@@ -91,27 +96,17 @@ pub fn list_nth<'a>(
     head: AnodeNo,
     n: u64,
     fields: &mut [u32; 11],
-    answer: &mut u32,
-) -> &'a [u8]
+) -> Result<&'a [u8], Refusal>
     requires { OpenFor image.now firsts.now nexts.now queue.now heads.now dirs }
-    ensures answer { answer.new ≡ list_refusal image.now (anodes_of image.now) head.0 n }
-    ensures fields { fields.new ≡ fields_listed answer.new image.now (nth (entries_of image.now (anodes_of image.now) head.0) n) }
-    ensures name { result.now ≡ name_listed answer.new (nth (entries_of image.now (anodes_of image.now) head.0) n) }
-    ensures part { StartsAt image.entry result (get_or fields.new 7 0) }
+    ensures answer { answer_of result ≡ list_refusal image.now (anodes_of image.now) head.0 n }
+    ensures fields { fields.new ≡ fields_listed (answer_of result) image.now (nth (entries_of image.now (anodes_of image.now) head.0) n) }
+    ensures name { IfOk result (λ name. name.now ≡ name_listed (answer_of result) (nth (entries_of image.now (anodes_of image.now) head.0) n)) }
+    ensures part { IfOk result (λ name. StartsAt image.entry name (get_or fields.new 7 0)) }
 {
-    let found = find_nth(image, firsts, nexts, queue, heads, dirs, head, n);
-    match found {
-        Search::Found(e) => {
-            *answer = 0;
-            put_fields(image, e.start, fields);
-            name_part(image, e.start)
-        }
-        Search::Refused(r) => {
-            *answer = number(r);
-            *fields = [0u32; 11];
-            &image[0..0]
-        }
-    }
+    *fields = [0u32; 11];
+    let e = find_nth(image, firsts, nexts, queue, heads, dirs, head, n)?;
+    put_fields(image, e.start, fields);
+    Ok(name_part(image, e.start))
 }
 
 // The fields of the first entry with that name in a directory; 21, 22.
@@ -125,20 +120,13 @@ pub fn find_entry(
     head: AnodeNo,
     name: &[u8],
     fields: &mut [u32; 11],
-) -> u32
+) -> Result<(), Refusal>
     requires { OpenFor image.now firsts.now nexts.now queue.now heads.now dirs }
-    ensures answer { result ≡ find_refusal image.now (anodes_of image.now) head.0 name.now }
-    ensures fields { fields.new ≡ fields_listed result image.now (entry_named image.now (anodes_of image.now) head.0 name.now) }
+    ensures answer { answer_of result ≡ find_refusal image.now (anodes_of image.now) head.0 name.now }
+    ensures fields { fields.new ≡ fields_listed (answer_of result) image.now (entry_named image.now (anodes_of image.now) head.0 name.now) }
 {
-    let found = find_named(image, firsts, nexts, queue, heads, dirs, head, name);
-    match found {
-        Search::Found(e) => {
-            put_fields(image, e.start, fields);
-            0
-        }
-        Search::Refused(r) => {
-            *fields = [0u32; 11];
-            number(r)
-        }
-    }
+    *fields = [0u32; 11];
+    let e = find_named(image, firsts, nexts, queue, heads, dirs, head, name)?;
+    put_fields(image, e.start, fields);
+    Ok(())
 }

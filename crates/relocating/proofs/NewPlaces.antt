@@ -7,6 +7,7 @@ use mathlib.Core.List.{List, [], ◌∷◌, ◌++◌}
 use native.Mathlib.Omega.{arith}
 use lib.ListN.{length, get_or, set}
 use borrow.Author.Tests.{eq-eqb, ne_eqb}
+use Rattle.std.specs.Prelude.{Ok, Err}
 use Rattle.disk.specs.declared.Refusal.{Refusal}
 use Rattle.disk.specs.Refusals.{number_of}
 use Rattle.rules.specs.Anodes.{Anodes, limit}
@@ -21,12 +22,8 @@ use Rattle.anodes.specs.Loaded.{anodes_from, slots_from, table_from}
 use Rattle.safe_rules.specs.SafePlans.{owner_of, block_from, relocated, reslotted, reslotted_from}
 use Rattle.safe_laws.specs.NewSlots.{new_slots}
 use Rattle.disk.specs.declared.BlockNo.{BlockNo}
-use Rattle.placing.specs.declared.Step.{Step}
-use Rattle.placing.specs.declared.Step.TheVariants.{Moved, Refused}
-use Rattle.placing.specs.declared.Moves.{Moves}
-use Rattle.placing.specs.declared.Moves.TheVariants.{Done, Stopped}
 use Rattle.placing.specs.States.{GoodState}
-use Rattle.placing.specs.Steps.{step_plan, EndsIn}
+use Rattle.placing.specs.Steps.{EndsIn}
 use Rattle.placing.proofs.Tables.{set-changed}
 use Rattle.relocating.specs.Places.{PlaceTaken, slot_plan}
 
@@ -51,24 +48,15 @@ module _ (s : Anodes) (slots : ℕ → ℕ) where
   unfolding relocated_to block_from run
   found-relocated y a p x z t e is out own = rw (is, out) (sym (relocated_is y ∙ ap (relocated_to (owner_of s y)) e ∙ ap (λ (b : ℕ). relocated_to b (found p x)) own))
 
--- a place is taken, or none is free
-module _ (step : Step) (s t : Anodes) (taken : PlaceTaken step s t) where
-  none_free : (why : Refusal) → step ≡ Refused why → (free_extent limit true s ≡ nowhere) × (number_of why ≡ 27)
-  none_free why e = let n : PlaceTaken (Refused why) s t = rw e at taken in n
+module _ (s t : Anodes) where
+  -- no place is free: so the block's move is refused
+  pub relocate_stops : (why : Refusal) → PlaceTaken (Err why) s t → (y : ℕ) (slots : ℕ → ℕ) → refused (number_of why) ≡ relocated y (slotted s slots)
+  relocate_stops why taken y slots = ap (λ (n : ℕ). refused n) taken.1 ∙ nowhere_relocated s slots y taken.0
 
-  place_free : (z : BlockNo) → step ≡ Moved z → (p : ℕ) × (x : ℕ) × (free_extent limit true s ≡ found p x) × (z.0 ≡ s.block x) × (t ≡ without_first s p x)
-  place_free z e = let n : PlaceTaken (Moved z) s t = rw e at taken in n
-
-  -- refused, so is the block's move
-  pub relocate_stops : (why : Refusal) → step ≡ Refused why → (y : ℕ) (slots : ℕ → ℕ) → step_plan step 1 (slotted t slots) ≡ relocated y (slotted s slots)
-  relocate_stops why e y slots =
-      let (out, is) = none_free why e in
-      ap (λ (i : Step). step_plan i 1 (slotted t slots)) e ∙ ap (λ (n : ℕ). refused n) is ∙ nowhere_relocated s slots y out
-
-  -- done, the owner of block y has the place
-  pub relocate_done : (z : BlockNo) → step ≡ Moved z → (a : ℕ) (u : Anodes) → u ≡ rewritten t a 1 z.0 → (y : ℕ) (slots : ℕ → ℕ) → owner_of s y ≡ a → planned (slotted u slots) (run z.0 1) ≡ relocated y (slotted s slots)
-  relocate_done z e a u is y slots own =
-      let (p, x, at, block, out) = place_free z e in
+  -- a place is taken: the owner of block y has it
+  pub relocate_done : (z : BlockNo) → PlaceTaken (Ok z) s t → (a : ℕ) (u : Anodes) → u ≡ rewritten t a 1 z.0 → (y : ℕ) (slots : ℕ → ℕ) → owner_of s y ≡ a → planned (slotted u slots) (run z.0 1) ≡ relocated y (slotted s slots)
+  relocate_done z taken a u is y slots own =
+      let (p, x, at, block, out) = taken in
       ap (λ (v : Anodes). planned (slotted v slots) (run z.0 1)) is ∙ found-relocated s slots y a p x z.0 t at block out own
 
 -- the slot k in the place that a search found
@@ -96,14 +84,14 @@ unfolding slot_to slot_from slots_from
 slot_found c f n slots k p x z t low u e is out = slot_used k (table_from c f n slots) u ∙ ap (slot_to k (table_from c f n slots)) e ∙ rw (out, is, set-changed slots k ((anodes_from c f n).block x) low)
 
 -- a slot in use, by the place that is taken for it
-module _ (c f n slots : List ℕ) (k : ℕ) (used : get_or slots k 0 ≢ 0) (step : Step) (t : Anodes) (taken : PlaceTaken step (anodes_from c f n) t) where
-  pub slot_stops : (why : Refusal) → step ≡ Refused why → slot_plan k (table_from c f n slots) ≡ refused (number_of why)
+module _ (c f n slots : List ℕ) (k : ℕ) (used : get_or slots k 0 ≢ 0) (t : Anodes) where
+  pub slot_stops : (why : Refusal) → PlaceTaken (Err why) (anodes_from c f n) t → slot_plan k (table_from c f n slots) ≡ refused (number_of why)
   unfolding slots_from
-  slot_stops why e = let (out, is) = none_free step (anodes_from c f n) t taken why e in slot_nowhere k (table_from c f n slots) used out ∙ ap (λ (m : ℕ). refused m) (sym is)
+  slot_stops why taken = slot_nowhere k (table_from c f n slots) used taken.0 ∙ ap (λ (m : ℕ). refused m) (sym taken.1)
 
-  pub slot_done : (z : BlockNo) → step ≡ Moved z → k < length slots → EndsIn Done (slotted t (slots_from (set slots k z.0))) (slot_plan k (table_from c f n slots))
-  slot_done z e low =
-      let (p, x, at, block, out) = place_free step (anodes_from c f n) t taken z e in
+  pub slot_done : (z : BlockNo) → PlaceTaken (Ok z) (anodes_from c f n) t → k < length slots → EndsIn (Ok tt) (slotted t (slots_from (set slots k z.0))) (slot_plan k (table_from c f n slots))
+  slot_done z taken low =
+      let (p, x, at, block, out) = taken in
       ((anodes_from c f n).block x ∷ [], slot_found c f n slots k p x z.0 t low used at block out)
 
 -- ---- the slots one after the other
@@ -134,7 +122,7 @@ slot_state k last s t ys state e =
     let start : StartOwned (λ x. state.system x) = state.start in
     record { n = state.n; system = with_these state.system (ys ++ []); hd = w.hd'; sd = w.sd'; small = state.small; start = λ x l. omega (arith, start x l); good = w.good }
 
-module _ {start : Slotted} {k : ℕ} {s : Slotted} (r : Reslots start k s) (low : k < 42) (moves : Moves) (t : Slotted) (ends : EndsIn moves t (slot_plan k s)) where
+module _ {start : Slotted} {k : ℕ} {s : Slotted} (r : Reslots start k s) (low : k < 42) (t : Slotted) where
   open_slot : reslotted_from (42 - k) k s ≡ slot_plan k s and_then reslotted_from (42 - (k + 1)) (k + 1)
   open_slot =
       let n : 42 - k ≡ suc (42 - (k + 1)) = omega arith in
@@ -142,10 +130,10 @@ module _ {start : Slotted} {k : ℕ} {s : Slotted} (r : Reslots start k s) (low 
       ap (λ (m : ℕ). reslotted_from m k s) n ∙ next_slot k (42 - (k + 1)) s ∙ ap (λ (j : ℕ). slot_plan k s and_then reslotted_from (42 - (k + 1)) j) i
 
   -- done
-  pub reslots_next : moves ≡ Done → Reslots start (k + 1) t
+  pub reslots_next : EndsIn (Ok tt) t (slot_plan k s) → Reslots start (k + 1) t
   unfolding ◌and_then◌
-  reslots_next is =
-      let (ys, e) : EndsIn Done t (slot_plan k s) = rw is at ends in
+  reslots_next ends =
+      let (ys, e) = ends in
       record {
         last = r.last;
         state = slot_state k r.last s t ys r.state e;
@@ -154,14 +142,13 @@ module _ {start : Slotted} {k : ℕ} {s : Slotted} (r : Reslots start k s) (low 
       }
 
   -- refused, and so is all
-  pub reslots_stop : (why : Refusal) → moves ≡ Stopped why → reslotted_from 42 0 start ≡ refused (number_of why)
+  pub reslots_stop : (why : Refusal) → EndsIn (Err why) t (slot_plan k s) → reslotted_from 42 0 start ≡ refused (number_of why)
   unfolding after
-  reslots_stop why is =
-      let e : EndsIn (Stopped why) t (slot_plan k s) = rw is at ends in
+  reslots_stop why e =
       r.rest ∙ ap (after r.taken) (open_slot ∙ then_stop (slot_plan k s) (reslotted_from (42 - (k + 1)) (k + 1)) (number_of why) e)
 
 -- all have had theirs
-pub reslots_all : {start : Slotted} {k : ℕ} {s : Slotted} → Reslots start k s → 42 ≤ k → EndsIn Done s (reslotted_from 42 0 start)
+pub reslots_all : {start : Slotted} {k : ℕ} {s : Slotted} → Reslots start k s → 42 ≤ k → EndsIn (Ok tt) s (reslotted_from 42 0 start)
 unfolding reslotted_from after
 reslots_all {start} {k} {s} r l =
     let e : 42 - k ≡ 0 = omega arith in

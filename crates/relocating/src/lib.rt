@@ -10,37 +10,46 @@ ghost use Rattle.placing.specs.States.{GoodState};
 ghost use Rattle.relocating.specs.Places.{PlaceTaken, slot_plan};
 
 use disk::{AnodeNo, BlockNo, Refusal};
-use placing::{Moves, Step, rewrite, stopped, without_run};
-use searches::{Extent, free_extent};
+use placing::{rewrite, without_run};
+use searches::free_extent;
 use tables::{entry, set_entry};
 
 // Takes the first free block, looking where directories look.
-fn new_place(counts: &mut [u16], firsts: &mut [u16], nexts: &mut [u16]) -> Step
+fn new_place(counts: &mut [u16], firsts: &mut [u16], nexts: &mut [u16]) -> Result<BlockNo, Refusal>
     requires anode_tables { AnodeTables counts.old firsts.old nexts.old }
     requires by_index { (last : ℕ) × (slots : ℕ → ℕ) × GoodState last (slotted (anodes_from counts.old firsts.old nexts.old) slots) }
     ensures { PlaceTaken result (anodes_from counts.old firsts.old nexts.old) (anodes_from counts.new firsts.new nexts.new) }
 {
-    let found = free_extent(true, counts, nexts);
-    let Extent::At(p, x) = found else {
-        return Step::Refused(Refusal::NoFreeBlock);
-    };
-    let y = entry(firsts, x.0 as usize);
-    without_run(counts, firsts, nexts, AnodeNo(2), p, x, 1, BlockNo(y + 1));
-    Step::Moved(BlockNo(y))
+    let found = free_extent(true, counts, nexts).ok_or(Refusal::NoFreeBlock)?;
+    let y = entry(firsts, found.anode.0 as usize);
+    let rest = BlockNo(y + 1);
+    without_run(
+        counts,
+        firsts,
+        nexts,
+        AnodeNo(2),
+        found.before,
+        found.anode,
+        1,
+        rest,
+    );
+    Ok(BlockNo(y))
 }
 
 // Gives the one block of anode `owner` a new place.
-pub fn relocate(owner: AnodeNo, counts: &mut [u16], firsts: &mut [u16], nexts: &mut [u16]) -> Step
+pub fn relocate(
+    owner: AnodeNo,
+    counts: &mut [u16],
+    firsts: &mut [u16],
+    nexts: &mut [u16],
+) -> Result<BlockNo, Refusal>
     requires anode_tables { AnodeTables counts.old firsts.old nexts.old × (owner.0 < 3444) }
     requires by_index { (last : ℕ) × (slots : ℕ → ℕ) × GoodState last (slotted (anodes_from counts.old firsts.old nexts.old) slots) }
     ensures { (y : ℕ) (slots : ℕ → ℕ) → owner_of (anodes_from counts.old firsts.old nexts.old) y ≡ owner.0 → step_plan result 1 (slotted (anodes_from counts.new firsts.new nexts.new) slots) ≡ relocated y (slotted (anodes_from counts.old firsts.old nexts.old) slots) }
 {
-    let place = new_place(counts, firsts, nexts);
-    let Step::Moved(y) = place else {
-        return place;
-    };
+    let y = new_place(counts, firsts, nexts)?;
     rewrite(counts, firsts, owner, 1, y);
-    place
+    Ok(y)
 }
 
 // Gives the anode block of slot `k` a new place, if the slot is in use.
@@ -50,20 +59,17 @@ fn reslot(
     counts: &mut [u16],
     firsts: &mut [u16],
     nexts: &mut [u16],
-) -> Moves
+) -> Result<(), Refusal>
     requires anode_tables { AnodeTables counts.old firsts.old nexts.old × (length slots.old ≡ 42) × (k < 42) }
     requires by_index { (last : ℕ) × GoodState last (table_from counts.old firsts.old nexts.old slots.old) }
     ensures { EndsIn result (table_from counts.new firsts.new nexts.new slots.new) (slot_plan k (table_from counts.old firsts.old nexts.old slots.old)) }
 {
     if entry(slots, k) == 0 {
-        return Moves::Done;
+        return Ok(());
     }
-    let place = new_place(counts, firsts, nexts);
-    let Step::Moved(y) = place else {
-        return stopped(place);
-    };
+    let y = new_place(counts, firsts, nexts)?;
     set_entry(slots, k, y.0);
-    Moves::Done
+    Ok(())
 }
 
 // Gives every anode block a new place, slot by slot.
@@ -72,18 +78,13 @@ pub fn reslot_all(
     counts: &mut [u16],
     firsts: &mut [u16],
     nexts: &mut [u16],
-) -> Moves
+) -> Result<(), Refusal>
     requires anode_tables { AnodeTables counts.old firsts.old nexts.old × (length slots.old ≡ 42) }
     requires by_index { (last : ℕ) × GoodState last (table_from counts.old firsts.old nexts.old slots.old) }
     ensures { EndsIn result (table_from counts.new firsts.new nexts.new slots.new) (reslotted_from 42 0 (table_from counts.old firsts.old nexts.old slots.old)) }
 {
-    let mut k: usize = 0;
-    while k < 42 {
-        let moves = reslot(k, slots, counts, firsts, nexts);
-        let Moves::Done = moves else {
-            return moves;
-        };
-        k += 1;
+    for k in 0..42 {
+        reslot(k, slots, counts, firsts, nexts)?;
     }
-    Moves::Done
+    Ok(())
 }

@@ -2,6 +2,7 @@
 #![tactic(auto)]
 
 ghost use Rattle.std.specs.Prelude.{List, ◌≡◌, ℕ, ◌≤◌, length};
+ghost use Rattle.disk.specs.Refusals.{answer_of};
 ghost use Rattle.rules.specs.Plans.{table_of};
 ghost use Rattle.rules.specs.Changes.{left, removed_image, removed};
 ghost use Rattle.change_laws.specs.RemoveStores.{EntryPlan};
@@ -12,11 +13,10 @@ ghost use Rattle.change_tables.specs.Leaves.{Leaves, ReachedEntry};
 
 use anode_blocks::{show_slots, store_slots};
 use chains::show_heads;
-use disk::AnodeNo;
+use disk::{AnodeNo, Refusal};
 use edits::{set_behind, store_anodes, take_out};
 use giving::{copied, give_all};
 use lookup::EntryAt;
-use placing::{Moves, moves_number};
 use searches::{last_reserved, slots_of};
 use walk_steps::chain_sum;
 
@@ -59,17 +59,17 @@ pub fn remove_entry(
     firsts: &[u16],
     nexts: &[u16],
     e: EntryAt,
-) -> u32
+) -> Result<(), Refusal>
     requires loaded { Loaded image.old counts.now firsts.now nexts.now × ReachedEntry image.old (entered image.old e) }
     requires in_bounds { 3444 ≤ length anodes.old }
-    ensures { Leaves result image.old blocks.old anodes.old image.new blocks.new anodes.new (removed (growth_if growing) image.old (table_of image.old) (entered image.old e)) }
+    ensures { Leaves (answer_of result) image.old blocks.old anodes.old image.new blocks.new anodes.new (removed (growth_if growing) image.old (table_of image.old) (entered image.old e)) }
 {
     let have = chain_sum(counts, nexts, e.anode) as u64;
     let mut new_counts = copied(counts);
     let mut new_firsts = copied(firsts);
     let mut new_nexts = copied(nexts);
     let mut slots = slots_of(image);
-    let plan = give_all(
+    give_all(
         growing,
         &mut slots,
         last_reserved(image),
@@ -78,10 +78,7 @@ pub fn remove_entry(
         &mut new_counts,
         &mut new_firsts,
         &mut new_nexts,
-    );
-    let Moves::Done = plan else {
-        return moves_number(plan);
-    };
+    )?;
     commit_remove(
         image,
         blocks,
@@ -95,5 +92,5 @@ pub fn remove_entry(
         &slots,
         e,
     );
-    0
+    Ok(())
 }

@@ -1,5 +1,5 @@
 -- Laws of the totals: their two parts, when they are full, one more and the sums. Assumes nothing.
-use Prim.Native.Nat.{ℕ, zero, suc, ◌+◌, ◌-◌, ◌<◌, ◌≤◌}
+use Prim.Native.Nat.{ℕ, zero, suc, ◌+◌, ◌<◌, ◌≤◌}
 use mathlib.Core.Path.{◌≡◌, refl, sym, ap, ◌∙◌}
 use mathlib.Core.Logic.{inl, inr}
 use mathlib.Core.Bool.{Bool, true, false}
@@ -8,8 +8,8 @@ use native.Mathlib.Omega.{arith}
 use native.Mathlib.Numerals.{add-one}
 use lib.Dec.{leb, ltb}
 use lib.ListN.{length, get_or, set, take, drop, drop_of_length-le, length-drop, take-append-drop}
-use lib.Seq.{length-take-le, take_all, take-suc, drop-cons, take_at, drop_at, set-append_left, get_or-append-add, get_or-take}
-use borrow.Author.Tests.{le-leb, le-ltb, lt-ltb, leb-false, ltb-false}
+use lib.Seq.{length-take-le, take_all, take-suc, take_at, drop_at, set-append_left, get_or-append-add, get_or-take}
+use borrow.Author.Tests.{le-leb, leb-false, ltb-false}
 use Rattle.counting.specs.Laws.{neither}
 use Rattle.rules.specs.Counting.{sum_list, any_in}
 use Rattle.rules.specs.Calls.{done_or}
@@ -79,23 +79,11 @@ module _ (t : List ℕ) (len : length t ≡ 24) where
 -- ---- 31 by the sums
 
 module _ (most : ℕ) where
-  pub any_over : (l : List ℕ) (i : ℕ) → i < length l → most < get_or l i 0 → true ≡ any_in (ltb most) (drop i l)
-  unfolding any_in
-  any_over l i inside h = rw (drop-cons l i 0 inside, lt-ltb most (get_or l i 0) h)
-
-  pub any_next : (l : List ℕ) (i : ℕ) → i < length l → get_or l i 0 ≤ most → any_in (ltb most) (drop (i + 1) l) ≡ any_in (ltb most) (drop i l)
-  unfolding any_in
-  any_next l i inside h = rw (add-one i, drop-cons l i 0 inside, le-ltb most (get_or l i 0) h)
-
   any_none : (l : List ℕ) → any_in (ltb most) l ≡ false → (i : ℕ) → get_or l i 0 ≤ most
   unfolding any_in
   any_none [] e i = omega arith
   any_none (x ∷ l) e zero = ltb-false most x (neither (ltb most x) (any_in (ltb most) l) e).0
   any_none (x ∷ l) e (suc i) = any_none l (neither (ltb most x) (any_in (ltb most) l) e).1 i
-
-pub any_ended : (test : ℕ → Bool) (l : List ℕ) (i : ℕ) → length l ≤ i → false ≡ any_in test (drop i l)
-unfolding any_in
-any_ended test l i out = rw (drop_of_length-le l {i = i} out)
 
 -- ---- totals that are not full
 

@@ -22,7 +22,7 @@ fn count_at(starts: &mut [u16], i: usize)
     ensures { starts.new ≡ one_more_at starts.old i }
 {
     if i < starts.len() {
-        starts[i] = starts[i] + 1;
+        starts[i] += 1;
     }
 }
 
@@ -33,10 +33,7 @@ fn longer(longest: usize, owner: u16, len: usize) -> usize
     if owner != 1 {
         return longest;
     }
-    if longest < len {
-        return len;
-    }
-    longest
+    longest.max(len)
 }
 
 // Passes block `x`: where its owner is another than that of the block before, a run has ended and one of this owner starts.
@@ -71,10 +68,8 @@ pub fn count_runs(table: &[u16], n: usize, starts: &mut [u16]) -> usize
         start: 0,
         longest: 0,
     };
-    let mut x: usize = 0;
-    while x + 1 < n {
+    for x in 0..n - 1 {
         s = pass_block(table, x, starts, s);
-        x += 1;
     }
     longer(s.longest, s.owner, n - s.start)
 }
@@ -85,13 +80,11 @@ fn all_taken(totals: &[u64]) -> bool
     ensures { result ≡ leb 100000 (images_taken totals.now) }
 {
     let mut sum: u64 = 0;
-    let mut i: usize = 0;
-    while i < 18 {
-        if 100000 <= totals[i] {
+    for n in &totals[..18] {
+        if 100000 <= *n {
             return true;
         }
-        sum += totals[i];
-        i += 1;
+        sum += *n;
     }
     100000 <= sum
 }
@@ -101,14 +94,7 @@ fn some_over(totals: &[u64]) -> bool
     requires { length totals.now ≡ 24 }
     ensures { result ≡ any_in (ltb 10000000000000) (sums_in totals.now) }
 {
-    let mut i: usize = 18;
-    while i < 24 {
-        if 10000000000000 < totals[i] {
-            return true;
-        }
-        i += 1;
-    }
-    false
+    totals[18..].iter().any(|sum| 10000000000000 < *sum)
 }
 
 // 31: no further image is taken.
@@ -127,7 +113,7 @@ fn count_answer(totals: &mut [u64], n: usize)
     ensures { totals.new ≡ one_more_at (answers_in totals.old) n ++ sums_in totals.old }
 {
     if n < 18 {
-        totals[n] = totals[n] + 1;
+        totals[n] += 1;
     }
 }
 
@@ -137,10 +123,8 @@ fn add_figures(totals: &mut [u64], figures: &[u64])
     requires sums_low { SumsLow totals.old × Modest figures.now }
     ensures { totals.new ≡ answers_in totals.old ++ with_figures (sums_in totals.old) figures.now }
 {
-    let mut i: usize = 0;
-    while i < 6 {
-        totals[18 + i] = totals[18 + i] + figures[i];
-        i += 1;
+    for (i, figure) in figures.iter().enumerate() {
+        totals[18 + i] += *figure;
     }
 }
 

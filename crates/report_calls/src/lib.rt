@@ -2,15 +2,16 @@
 #![tactic(auto)]
 
 ghost use Rattle.std.specs.Prelude.{false, [], ◌≡◌, take};
+ghost use Rattle.disk.specs.Refusals.{answer_of};
 ghost use Rattle.rules.specs.Anodes.{anodes_of};
 ghost use Rattle.rules.specs.Calls.{outcome_of};
 ghost use Rattle.report.specs.Figures.{figures_of};
 ghost use Rattle.report.specs.Report.{is_full, with_image, reported, report_outcome};
 ghost use Rattle.report_calls.specs.Reportable.{Reportable};
 
-use disk::number;
+use disk::Refusal;
 use file_sums::sum_files;
-use fsck::{Checked, Tally, open_disk};
+use fsck::{DiskTables, Tally};
 use header::disk_size;
 use report::{add_accepted, add_refused, count_runs, is_full};
 
@@ -63,44 +64,39 @@ fn take_accepted(
     *disk = [figures[0], figures[1], figures[2], figures[3], figures[4]];
 }
 
-// One image fed to the totals: 31 before any check, then nothing changes; else the check, this disk's five numbers and the totals with it.
+// One image fed to the totals: refused before any check if they are full, then nothing changes; else the check, this disk's five numbers and the totals with it.
 pub fn report(
     image: &[u8],
     blocks: &mut [u16],
     anodes: &mut [u16],
     totals: &mut [u64; 24],
     disk: &mut [u64; 5],
-) -> u32
-    ensures { reported (outcome_of result image.now blocks.new anodes.new disk.new []) totals.new ≡ report_outcome image.now blocks.old anodes.old totals.old disk.old }
+) -> Result<(), Refusal>
+    ensures { reported (outcome_of (answer_of result) image.now blocks.new anodes.new disk.new []) totals.new ≡ report_outcome image.now blocks.old anodes.old totals.old disk.old }
 {
     if is_full(totals) {
-        return 31;
+        return Err(Refusal::ReportFull);
     }
-    let mut counts = [0u16; 3444];
-    let mut firsts = [0u16; 3444];
-    let mut nexts = [0u16; 3444];
-    let mut queue = [0u16; 3444];
-    let mut parents = [0u16; 3444];
-    let c = open_disk(
-        image,
-        blocks,
-        anodes,
-        &mut counts,
-        &mut firsts,
-        &mut nexts,
-        &mut queue,
-        &mut parents,
-    );
-    match c {
-        Checked::Accepted(t) => {
-            take_accepted(image, blocks, &firsts, &nexts, &queue, t, totals, disk);
-            0
+    let mut loaded = DiskTables::empty();
+    let checked = loaded.open(image, blocks, anodes);
+    match checked {
+        Ok(t) => {
+            take_accepted(
+                image,
+                blocks,
+                &loaded.firsts,
+                &loaded.nexts,
+                &loaded.queue,
+                t,
+                totals,
+                disk,
+            );
+            Ok(())
         }
-        Checked::Refused(r) => {
-            let n = number(r);
-            add_refused(totals, n);
+        Err(refusal) => {
+            add_refused(totals, u32::from(refusal));
             *disk = [0u64; 5];
-            n
+            Err(refusal)
         }
     }
 }

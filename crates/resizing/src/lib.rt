@@ -2,6 +2,7 @@
 #![tactic(auto)]
 
 ghost use Rattle.std.specs.Prelude.{false, List, ◌≡◌, ℕ, ◌≤◌, length};
+ghost use Rattle.disk.specs.Refusals.{answer_of};
 ghost use Rattle.directory.specs.Entries.{is_dir};
 ghost use Rattle.rules.specs.Anodes.{anodes_of};
 ghost use Rattle.rules.specs.Chains.{block_count};
@@ -18,11 +19,10 @@ ghost use Rattle.change_tables.specs.Leaves.{Leaves, ReachedEntry};
 
 use anode_blocks::{show_slots, store_slots};
 use chains::show_heads;
-use disk::{AnodeNo, BlockNo};
+use disk::{AnodeNo, BlockNo, Refusal};
 use edits::{put_size, set_behind, store_anodes, zero_behind, zero_tail};
 use giving::{copied, give_blocks};
 use lookup::EntryAt;
-use placing::{Moves, moves_number};
 use searches::{last_reserved, slots_of};
 use taking::take_many;
 use walk_steps::{blocks_for, chain_sum};
@@ -38,7 +38,7 @@ fn plan_resize(
     counts: &mut [u16],
     firsts: &mut [u16],
     nexts: &mut [u16],
-) -> Moves
+) -> Result<(), Refusal>
     requires anode_tables { AnodeTables counts.old firsts.old nexts.old × (length slots.old ≡ 42) }
     requires ready { Ready last.0 (table_from counts.old firsts.old nexts.old slots.old) head.0 }
     requires have_value { have ≡ block_count (anodes_from counts.old firsts.old nexts.old) head.0 }
@@ -112,10 +112,10 @@ pub fn resize_entry(
     nexts: &[u16],
     e: EntryAt,
     size: u64,
-) -> u32
+) -> Result<(), Refusal>
     requires loaded { Loaded image.old counts.now firsts.now nexts.now × ReachedEntry image.old (entered image.old e) }
     requires kind_value { (is_dir e.kind ≡ false) × (3444 ≤ length anodes.old) }
-    ensures { Leaves result image.old blocks.old anodes.old image.new blocks.new anodes.new (resized (growth_if growing) image.old (table_of image.old) (entered image.old e) size) }
+    ensures { Leaves (answer_of result) image.old blocks.old anodes.old image.new blocks.new anodes.new (resized (growth_if growing) image.old (table_of image.old) (entered image.old e) size) }
 {
     let have = chain_sum(counts, nexts, e.anode) as u64;
     let want = blocks_for(size);
@@ -123,7 +123,7 @@ pub fn resize_entry(
     let mut new_firsts = copied(firsts);
     let mut new_nexts = copied(nexts);
     let mut slots = slots_of(image);
-    let plan = plan_resize(
+    let planned = plan_resize(
         growing,
         &mut slots,
         last_reserved(image),
@@ -134,8 +134,8 @@ pub fn resize_entry(
         &mut new_firsts,
         &mut new_nexts,
     );
-    let Moves::Done = plan else {
-        return moves_number(plan);
+    let Ok(()) = planned else {
+        return planned;
     };
     commit_resize(
         image,
@@ -153,5 +153,5 @@ pub fn resize_entry(
         e,
         size,
     );
-    0
+    Ok(())
 }

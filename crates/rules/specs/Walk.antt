@@ -1,8 +1,7 @@
 -- 01, "Refusal numbers", 12 to 15, and 02, No. 5, 17: one walk, directories breadth first from the root, blocks in chain order, entries in byte order; the first fault met answers.
-use Rattle.std.specs.Prelude.{ℕ, zero, suc, ◌+◌, ◌*◌, ◌/◌, Bool, true, false, cond, ◌&&◌, ◌||◌, List, [], ◌∷◌, ◌++◌, map, get_or, eqb, leb}
+use Rattle.std.specs.Prelude.{ℕ, zero, suc, ◌+◌, ◌*◌, ◌/◌, Bool, true, false, cond, ◌&&◌, ◌||◌, List, [], ◌∷◌, ◌++◌, map, get_or, eqb, leb, Some, None, Ok, Err}
 use Rattle.disk.specs.Blocks.{block_of}
-use Rattle.directory.specs.declared.Walked.{Walked}
-use Rattle.directory.specs.declared.Walked.TheVariants.{Found, End, Fault}
+use Rattle.directory.specs.Entries.{Walked}
 use Rattle.directory.specs.Entries.{is_dir, directory_mark, directory_header_in, name_in, walked_at}
 use Rattle.rules.specs.Counting.{◌if◌else◌, first_of, occurrences, any_in, gather, same_bytes}
 use Rattle.rules.specs.Folding.{folded}
@@ -33,9 +32,9 @@ pub record Entered : Type 0 where
 
 -- what stands at a place, with the name there and the entries behind it
 abbrev pub with_rest : Walked → List ℕ → ℕ → List Entered → List Entered
-with_rest (Found e) name start rest = record { broken = false; dir = is_dir e.kind; anode = e.anode.0; size = e.size; name = name; start = start } ∷ rest
-with_rest End name start rest = []
-with_rest (Fault r) name start rest = record { broken = true; dir = false; anode = 0; size = 0; name = []; start = start } ∷ []
+with_rest (Ok (Some e)) name start rest = record { broken = false; dir = is_dir e.kind; anode = e.anode.0; size = e.size; name = name; start = start } ∷ rest
+with_rest (Ok None) name start rest = []
+with_rest (Err r) name start rest = record { broken = true; dir = false; anode = 0; size = 0; name = []; start = start } ∷ []
 
 -- the entries of block y from a place of it on, in byte order, up to the end mark or the first that breaks the rules
 unfoldable pub entries_from : ℕ → List ℕ → ℕ → ℕ → List Entered

@@ -1,14 +1,17 @@
 -- The outcome of a safe call, from the check's and from what the change by name leaves.
 use Prim.Native.Nat.{ℕ, zero, suc, ◌*◌, ◌/◌}
 use mathlib.Core.Path.{◌≡◌, refl, sym, ap, subst, ◌∙◌}
-use mathlib.Core.Logic.{◌≢◌, inl, inr}
-use mathlib.Core.Bool.{Bool, true, false, cond}
+use mathlib.Core.Logic.{inl, inr}
+use mathlib.Core.Bool.{Bool, true, false, cond, true≢false, false≢true}
+use Rattle.std.specs.Result.{is_err}
 use mathlib.Core.List.{List, []}
 use native.Mathlib.Omega.{arith}
 use lib.Dec.{ltb}
 use lib.ListN.{length, get_or, drop}
 use Rattle.disk.specs.declared.Refusal.{Refusal}
-use Rattle.disk.specs.Refusals.{number_of}
+use Rattle.std.specs.Prelude.{Result, Ok, Err}
+use Rattle.disk.specs.Refusals.{number_of, answer_of}
+use Rattle.disk.proofs.Laws.{number_some}
 use Rattle.rules.specs.Anodes.{limit, anodes_of}
 use Rattle.rules.specs.Accepted.{disk_size, short_tables, check_answer}
 use Rattle.rules.specs.Tables.{block_entry, block_table, anode_table, table_left, blocks_left, anodes_left}
@@ -18,10 +21,7 @@ use Rattle.laws.specs.Acceptance.{passed_of}
 use Rattle.laws.specs.OwnerTable.{table-entry, blocks_past, heads_past}
 use Rattle.change_laws.specs.Answers.{Late}
 use Rattle.fsck.specs.declared.Tally.{Tally}
-use Rattle.fsck.specs.declared.Checked.{Checked}
-use Rattle.fsck.specs.declared.Checked.TheVariants.{Accepted, Refused}
-use Rattle.fsck.specs.Answers.{checked_number, Opened, Sized}
-use Rattle.find.proofs.Laws.{refused_some, not_done}
+use Rattle.find.proofs.Laws.{not_done}
 use Rattle.call_laws.specs.Opened.{first_k, settled_k, answers-0, first-0, settled_late}
 use Rattle.safe_rules.specs.SafePlans.{SafeChange, safe_plan}
 use Rattle.safe_rules.specs.SafeWrites.{BlockWrite, list_of}
@@ -29,7 +29,7 @@ use Rattle.safe_rules.specs.SafeCalls.{SafeCall, SafeOutcome, safe_refusal, safe
 use Rattle.safe_laws.specs.SafeAnswers.{refusal_late, refused_image_lem, safe_answers}
 use Rattle.safe_laws.specs.PulledPlug.{crash_theorem}
 use Rattle.safe_plans.specs.Planned.{ShowsBlocks}
-use Rattle.safe_stores.specs.declared.Listed.{Listed}
+use Rattle.safe_stores.specs.Leaves.{writes_in}
 use Rattle.safe_named.specs.After.{after_check, CallLeaves}
 use Rattle.safe_calls.specs.Outcomes.{safe_outcome_of, ShownAgain}
 
@@ -92,36 +92,34 @@ same-behind range shown old new e = rw e
 -- ---- both tables after a change
 
 -- a refused one leaves them
-pub shown_kept : (n : ℕ) → n ≢ 0 → (img b a : List ℕ) → ShownAgain n img b a b a
-shown_kept n other img b a = record { blocks = sym (not_done n (omega arith) (check_outcome img b a).blocks b); anodes = sym (not_done n (omega arith) (check_outcome img b a).anodes a) }
+pub shown_kept : (l : Result ℕ Refusal) → is_err l ≡ true → (img b a : List ℕ) → ShownAgain (answer_of l) img b a b a
+shown_kept (Ok n) e img b a = absurd (false≢true e)
+shown_kept (Err r) e img b a = record { blocks = sym (not_done (number_of r) (number_some r) (check_outcome img b a).blocks b); anodes = sym (not_done (number_of r) (number_some r) (check_outcome img b a).anodes a) }
 
 -- a done one leaves them to the check
-pub shown_checked : (n : ℕ) → n ≡ 0 → (img b a b' a' : List ℕ) (x : Checked) → outcome_of (checked_number x) img b' a' [] [] ≡ check_outcome img b a → ShownAgain n img b a b' a'
+pub shown_checked : (l : Result ℕ Refusal) → is_err l ≡ false → (img b a b' a' : List ℕ) (x : Result Tally Refusal) → outcome_of (answer_of x) img b' a' [] [] ≡ check_outcome img b a → ShownAgain (answer_of l) img b a b' a'
 unfolding done_or
-shown_checked n z img b a b' a' x e = rw z (record { blocks = ap (λ (o : Outcome). o.blocks) e; anodes = ap (λ (o : Outcome). o.anodes) e })
+shown_checked (Ok n) z img b a b' a' x e = record { blocks = ap (λ (o : Outcome). o.blocks) e; anodes = ap (λ (o : Outcome). o.anodes) e }
+shown_checked (Err r) z img b a b' a' x e = absurd (true≢false z)
 
-module _ (img b₀ a₀ b a : List ℕ) (x : Checked) (e : outcome_of (checked_number x) img b a [] [] ≡ check_outcome img b₀ a₀) where
+module _ (img b₀ a₀ b a : List ℕ) (x : Result Tally Refusal) (e : outcome_of (answer_of x) img b a [] [] ≡ check_outcome img b₀ a₀) where
   -- ---- the check refused
 
-  module _ (r : Refusal) (is : x ≡ Refused r) (out : List ℕ) (call : SafeCall) where
-    refused_outcome : (k count : ℕ) → k ≡ number_of r → count ≡ 0 → safe_outcome_of k img b a out count ≡ safe_outcome img b₀ a₀ out call
+  -- the call answers its number, and leaves all as the check does
+  module _ (r : Refusal) (is : x ≡ Err r) (out : List ℕ) (call : SafeCall) where
+    pub refused_outcome : safe_outcome_of (number_of r) img b a out 0 ≡ safe_outcome img b₀ a₀ out call
     unfolding safe_outcome safe_settled settled
-    refused_outcome k count is_k none =
-        let s = settled_k img b₀ a₀ b a x e r is k is_k [] [] in
+    refused_outcome =
+        let s = settled_k img b₀ a₀ b a x e r is [] [] in
         rw (
-          first_k img b₀ a₀ b a x e r is k is_k (safe_refusal img call),
-          not_done k (refused_some r k is_k) (safe_left img b₀ a₀ out (safe_change img call) (safe_plan img (anodes_of img) (safe_change img call))) (safe_refused img b₀ a₀ out k),
-          none,
+          first_k img b₀ a₀ b a x e r is (safe_refusal img call),
+          not_done (number_of r) (number_some r) (safe_left img b₀ a₀ out (safe_change img call) (safe_plan img (anodes_of img) (safe_change img call))) (safe_refused img b₀ a₀ out (number_of r)),
         )
-        (by_fields (safe_refused img b₀ a₀ out k) k img b a out 0 refl refl (ap (λ (o : Outcome). o.blocks) s) (ap (λ (o : Outcome). o.anodes) s) refl refl)
-
-    -- the call answers its number, and leaves all as the check does
-    pub listed_refused : (l : Listed) → (l.number ≡ number_of r) × (l.count ≡ 0) → safe_outcome_of l.number img b a out l.count ≡ safe_outcome img b₀ a₀ out call
-    listed_refused l n = refused_outcome l.number l.count n.0 n.1
+        (by_fields (safe_refused img b₀ a₀ out (number_of r)) (number_of r) img b a out 0 refl refl (ap (λ (o : Outcome). o.blocks) s) (ap (λ (o : Outcome). o.anodes) s) refl refl)
 
   -- ---- the check accepted
 
-  module _ (t : Tally) (is : x ≡ Accepted t) where
+  module _ (t : Tally) (is : x ≡ Ok t) where
     ok : check_answer img (length b₀) (length a₀) ≡ 0
     ok = answers-0 img b₀ a₀ b a x e t is
 
@@ -136,10 +134,6 @@ module _ (img b₀ a₀ b a : List ℕ) (x : Checked) (e : outcome_of (checked_n
     pub shows_blocks : ShowsBlocks img b
     unfolding blocks_left table_left block_table
     shows_blocks y l = ap (λ (z : List ℕ). get_or z y 0) (kept_tables 0 (inl refl)).0 ∙ table-entry (block_entry img (anodes_of img)) (disk_size img) (drop (disk_size img) b₀) y l
-
-    -- the tables that it loaded are as long as before
-    pub opened_sized : (counts firsts nexts queue parents : List ℕ) → Opened x img counts firsts nexts queue parents → Sized counts firsts nexts queue parents
-    opened_sized counts firsts nexts queue parents q = (rw is at q).2
 
     -- behind their ranges both are as they were lent
     blocks-behind : drop (disk_size img) b ≡ drop (disk_size img) b₀
@@ -213,9 +207,9 @@ module _ (img b₀ a₀ b a : List ℕ) (x : Checked) (e : outcome_of (checked_n
             (s.blocks ∙ q.0 ∙ sym w.0, s.anodes ∙ q.1 ∙ sym w.1)
 
       -- the whole outcome, from what the change by name leaves and from both tables, shown again
-      pub listed_answered : (l : Listed) (img' out' : List ℕ) → CallLeaves img out call l img' out' → length img' ≡ length img → length b ≡ length b₀ → length a ≡ length a₀ → (b' a' : List ℕ) → ShownAgain l.number img' b a b' a' →
-          safe_outcome_of l.number img' b' a' out' l.count ≡ safe_outcome img b₀ a₀ out call
+      pub listed_answered : (l : Result ℕ Refusal) (img' out' : List ℕ) → CallLeaves img out call l img' out' → length img' ≡ length img → length b ≡ length b₀ → length a ≡ length a₀ → (b' a' : List ℕ) → ShownAgain (answer_of l) img' b a b' a' →
+          safe_outcome_of (answer_of l) img' b' a' out' (writes_in l) ≡ safe_outcome img b₀ a₀ out call
       listed_answered l img' out' leaves long blocks_long anodes_long b' a' s =
           let w = rw after at (leaves b₀ a₀) in
-          let q = left_tables img' w.image long blocks_long anodes_long l.number w.number b' a' s in
-          by_fields o l.number img' b' a' out' l.count w.number w.image q.0 q.1 w.buffer w.count
+          let q = left_tables img' w.image long blocks_long anodes_long (answer_of l) w.number b' a' s in
+          by_fields o (answer_of l) img' b' a' out' (writes_in l) w.number w.image q.0 q.1 w.buffer w.count

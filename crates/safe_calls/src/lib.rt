@@ -1,40 +1,35 @@
 // The calls that change an image safely. None asks anything of its caller; each contract settles the answer, the image, both tables, the buffer of writes and their count for every input.
 #![tactic(auto)]
 
-ghost use Rattle.std.specs.Prelude.{get_or, ◌≡◌};
-ghost use Rattle.fsck.specs.Answers.{Sized};
+ghost use Rattle.std.specs.Prelude.{◌≡◌};
+ghost use Rattle.disk.specs.Refusals.{answer_of};
 ghost use Rattle.safe_rules.specs.SafeCalls.{safe_make, safe_resize, safe_write, safe_remove, safe_outcome};
 ghost use Rattle.find.specs.Open.{Open};
 ghost use Rattle.safe_plans.specs.Planned.{ShowsBlocks};
+ghost use Rattle.safe_stores.specs.Leaves.{writes_in};
 ghost use Rattle.safe_named.specs.After.{CallLeaves};
 ghost use Rattle.safe_named.specs.Asked.{call_of};
 ghost use Rattle.safe_calls.specs.Outcomes.{safe_outcome_of, ShownAgain};
 
-use disk::AnodeNo;
-use fsck::{Checked, open_disk};
+use disk::{AnodeNo, Refusal};
+use fsck::DiskTables;
 use named_changes::Asked;
 use safe_named::safe_change_named;
-use safe_stores::{Listed, not_listed};
 
 // Shows a changed image in both tables, by another check of it; a refused change leaves them.
 fn show_again(
-    n: u32,
+    listed: Result<u32, Refusal>,
     image: &[u8],
     blocks: &mut [u16],
     anodes: &mut [u16],
-    counts: &mut [u16],
-    firsts: &mut [u16],
-    nexts: &mut [u16],
-    queue: &mut [u16],
-    parents: &mut [u16],
+    tables: &mut DiskTables,
 )
-    requires { Sized counts.old firsts.old nexts.old queue.old parents.old }
-    ensures { ShownAgain n image.now blocks.old anodes.old blocks.new anodes.new }
+    ensures { ShownAgain (answer_of listed) image.now blocks.old anodes.old blocks.new anodes.new }
 {
-    if n != 0 {
+    if listed.is_err() {
         return;
     }
-    open_disk(image, blocks, anodes, counts, firsts, nexts, queue, parents);
+    let _ = tables.open(image, blocks, anodes);
 }
 
 // Does safely what is asked for in an accepted image, and shows the image that is left in both tables.
@@ -42,42 +37,39 @@ fn change_shown(
     image: &mut [u8],
     blocks: &mut [u16],
     anodes: &mut [u16],
-    counts: &mut [u16],
-    firsts: &mut [u16],
-    nexts: &mut [u16],
-    queue: &mut [u16],
-    parents: &mut [u16],
+    tables: &mut DiskTables,
     dirs: u16,
     head: AnodeNo,
     name: &[u8],
     asked: Asked,
     text: &[u8],
     writes: &mut [u8],
-) -> Listed
-    requires fact { Open image.old counts.old firsts.old nexts.old queue.old parents.old anodes.old dirs × ShowsBlocks image.old blocks.old }
-    requires sized { Sized counts.old firsts.old nexts.old queue.old parents.old }
+) -> Result<u32, Refusal>
+    requires { Open image.old tables.old.counts tables.old.firsts tables.old.nexts tables.old.queue tables.old.parents anodes.old dirs × ShowsBlocks image.old blocks.old }
     ensures left { CallLeaves image.old writes.old (call_of asked head.0 name.now text.now) result image.new writes.new }
-    ensures shown { ShownAgain result.number image.new blocks.old anodes.old blocks.new anodes.new }
+    ensures shown { ShownAgain (answer_of result) image.new blocks.old anodes.old blocks.new anodes.new }
 {
     let listed = safe_change_named(
-        image, blocks, anodes, counts, firsts, nexts, queue, parents, dirs, head, name, asked,
-        text, writes,
-    );
-    show_again(
-        listed.number,
         image,
         blocks,
         anodes,
-        counts,
-        firsts,
-        nexts,
-        queue,
-        parents,
+        &tables.counts,
+        &tables.firsts,
+        &tables.nexts,
+        &tables.queue,
+        &tables.parents,
+        dirs,
+        head,
+        name,
+        asked,
+        text,
+        writes,
     );
+    show_again(listed, image, blocks, anodes, tables);
     listed
 }
 
-// The check, then what is asked for, done safely; both tables show the image that is left.
+// The check, then what is asked for, done safely; both tables show the image that is left. How many block writes are handed out.
 fn change_checked(
     image: &mut [u8],
     blocks: &mut [u16],
@@ -87,46 +79,26 @@ fn change_checked(
     asked: Asked,
     text: &[u8],
     writes: &mut [u8],
-) -> Listed
-    ensures { safe_outcome_of result.number image.new blocks.new anodes.new writes.new result.count ≡ safe_outcome image.old blocks.old anodes.old writes.old (call_of asked directory name.now text.now) }
+) -> Result<u32, Refusal>
+    ensures { safe_outcome_of (answer_of result) image.new blocks.new anodes.new writes.new (writes_in result) ≡ safe_outcome image.old blocks.old anodes.old writes.old (call_of asked directory name.now text.now) }
 {
-    let mut counts = [0u16; 3444];
-    let mut firsts = [0u16; 3444];
-    let mut nexts = [0u16; 3444];
-    let mut queue = [0u16; 3444];
-    let mut parents = [0u16; 3444];
-    let c = open_disk(
+    let mut tables = DiskTables::empty();
+    let t = tables.open(image, blocks, anodes)?;
+    change_shown(
         image,
         blocks,
         anodes,
-        &mut counts,
-        &mut firsts,
-        &mut nexts,
-        &mut queue,
-        &mut parents,
-    );
-    match c {
-        Checked::Accepted(t) => change_shown(
-            image,
-            blocks,
-            anodes,
-            &mut counts,
-            &mut firsts,
-            &mut nexts,
-            &mut queue,
-            &mut parents,
-            t.dirs,
-            AnodeNo(directory),
-            name,
-            asked,
-            text,
-            writes,
-        ),
-        Checked::Refused(r) => not_listed(r),
-    }
+        &mut tables,
+        t.dirs,
+        AnodeNo(directory),
+        name,
+        asked,
+        text,
+        writes,
+    )
 }
 
-// Makes a file of type 253 or a directory of type 2 safely, and hands out the list of block writes and their count; a refused call leaves the image and the buffer, and counts 0.
+// Makes a file of type 253 or a directory of type 2 safely, and hands out the list of block writes, and how many they are; a refused call leaves the image and the buffer.
 pub fn safe_make(
     image: &mut [u8],
     blocks: &mut [u16],
@@ -140,9 +112,8 @@ pub fn safe_make(
     tick: u16,
     protection: u8,
     writes: &mut [u8],
-    count: &mut [u32; 1],
-) -> u32
-    ensures { safe_outcome_of result image.new blocks.new anodes.new writes.new (get_or count.new 0 0) ≡ safe_outcome image.old blocks.old anodes.old writes.old (safe_make directory kind name.now comment.now day minute tick protection) }
+) -> Result<u32, Refusal>
+    ensures { safe_outcome_of (answer_of result) image.new blocks.new anodes.new writes.new (writes_in result) ≡ safe_outcome image.old blocks.old anodes.old writes.old (safe_make directory kind name.now comment.now day minute tick protection) }
 {
     let asked = Asked::Make {
         kind,
@@ -151,14 +122,12 @@ pub fn safe_make(
         tick,
         protection,
     };
-    let r = change_checked(
+    change_checked(
         image, blocks, anodes, directory, name, asked, comment, writes,
-    );
-    *count = [r.count];
-    r.number
+    )
 }
 
-// Resizes a file safely, and hands out the list of block writes and their count; a refused call leaves the image and the buffer, and counts 0.
+// Resizes a file safely, and hands out the list of block writes, and how many they are; a refused call leaves the image and the buffer.
 pub fn safe_resize(
     image: &mut [u8],
     blocks: &mut [u16],
@@ -167,12 +136,11 @@ pub fn safe_resize(
     name: &[u8],
     size: u64,
     writes: &mut [u8],
-    count: &mut [u32; 1],
-) -> u32
-    ensures { safe_outcome_of result image.new blocks.new anodes.new writes.new (get_or count.new 0 0) ≡ safe_outcome image.old blocks.old anodes.old writes.old (safe_resize directory name.now size) }
+) -> Result<u32, Refusal>
+    ensures { safe_outcome_of (answer_of result) image.new blocks.new anodes.new writes.new (writes_in result) ≡ safe_outcome image.old blocks.old anodes.old writes.old (safe_resize directory name.now size) }
 {
     let none = [0u8; 0];
-    let r = change_checked(
+    change_checked(
         image,
         blocks,
         anodes,
@@ -181,12 +149,10 @@ pub fn safe_resize(
         Asked::Resize(size),
         &none,
         writes,
-    );
-    *count = [r.count];
-    r.number
+    )
 }
 
-// Writes bytes of a file safely from the offset on, and hands out the list of block writes and their count; a refused call leaves the image and the buffer, and counts 0.
+// Writes bytes of a file safely from the offset on, and hands out the list of block writes, and how many they are; a refused call leaves the image and the buffer.
 pub fn safe_write(
     image: &mut [u8],
     blocks: &mut [u16],
@@ -196,11 +162,10 @@ pub fn safe_write(
     offset: u64,
     bytes: &[u8],
     writes: &mut [u8],
-    count: &mut [u32; 1],
-) -> u32
-    ensures { safe_outcome_of result image.new blocks.new anodes.new writes.new (get_or count.new 0 0) ≡ safe_outcome image.old blocks.old anodes.old writes.old (safe_write directory name.now offset bytes.now) }
+) -> Result<u32, Refusal>
+    ensures { safe_outcome_of (answer_of result) image.new blocks.new anodes.new writes.new (writes_in result) ≡ safe_outcome image.old blocks.old anodes.old writes.old (safe_write directory name.now offset bytes.now) }
 {
-    let r = change_checked(
+    change_checked(
         image,
         blocks,
         anodes,
@@ -209,12 +174,10 @@ pub fn safe_write(
         Asked::Write(offset),
         bytes,
         writes,
-    );
-    *count = [r.count];
-    r.number
+    )
 }
 
-// Removes a file or an empty directory safely, and hands out the list of block writes and their count; a refused call leaves the image and the buffer, and counts 0.
+// Removes a file or an empty directory safely, and hands out the list of block writes, and how many they are; a refused call leaves the image and the buffer.
 pub fn safe_remove(
     image: &mut [u8],
     blocks: &mut [u16],
@@ -222,12 +185,11 @@ pub fn safe_remove(
     directory: u16,
     name: &[u8],
     writes: &mut [u8],
-    count: &mut [u32; 1],
-) -> u32
-    ensures { safe_outcome_of result image.new blocks.new anodes.new writes.new (get_or count.new 0 0) ≡ safe_outcome image.old blocks.old anodes.old writes.old (safe_remove directory name.now) }
+) -> Result<u32, Refusal>
+    ensures { safe_outcome_of (answer_of result) image.new blocks.new anodes.new writes.new (writes_in result) ≡ safe_outcome image.old blocks.old anodes.old writes.old (safe_remove directory name.now) }
 {
     let none = [0u8; 0];
-    let r = change_checked(
+    change_checked(
         image,
         blocks,
         anodes,
@@ -236,7 +198,5 @@ pub fn safe_remove(
         Asked::Remove,
         &none,
         writes,
-    );
-    *count = [r.count];
-    r.number
+    )
 }

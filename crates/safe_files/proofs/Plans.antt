@@ -5,6 +5,8 @@ use mathlib.Core.Logic.{inl, inr}
 use mathlib.Core.List.{List}
 use native.Mathlib.Omega.{arith}
 use lib.ListN.{length}
+use Rattle.std.specs.Prelude.{Result}
+use Rattle.disk.specs.declared.Refusal.{Refusal}
 use Rattle.disk.specs.Root.{slot_of}
 use Rattle.rules.specs.Anodes.{anodes_of}
 use Rattle.rules.specs.Chains.{block_count}
@@ -19,7 +21,6 @@ use Rattle.safe_laws.specs.OwnChanges.{write_own}
 use Rattle.safe_laws.specs.SafeWritten.{write_leaves}
 use Rattle.anodes.specs.Loaded.{slots_from, table_from, Loaded}
 use Rattle.change_tables.specs.Chains.{good_state}
-use Rattle.placing.specs.declared.Moves.{Moves}
 use Rattle.placing.specs.Steps.{EndsIn}
 use Rattle.placing.specs.States.{Ready}
 use Rattle.giving_back.specs.OldTable.{old_from}
@@ -57,7 +58,7 @@ module _ {img : List ℕ} {k : ℕ} {e : Entered} (m : EntryIn img k e) (offset 
     pub write_ready : FileReady last (old_from blocks e.anode 65535 size 0) e.anode have (table_from counts firsts nexts slots)
     write_ready = rw (have_is, last_is, size_is, l.is_loaded, held) (file_ready (old_from blocks e.anode 65535 (disk_size img) 0) (olds_are blocks shown))
 
-    pub write_ends : (moves : Moves) (t : Slotted) → EndsIn moves t (taken_anew e.anode have (table_from counts firsts nexts slots) and_then rest_from last (old_from blocks e.anode 65535 size 0)) → EndsIn moves t (safe_steps img (write_change img (table_of img) e offset bytes))
+    pub write_ends : (moves : Result (Unit {0}) Refusal) (t : Slotted) → EndsIn moves t (taken_anew e.anode have (table_from counts firsts nexts slots) and_then rest_from last (old_from blocks e.anode 65535 size 0)) → EndsIn moves t (safe_steps img (write_change img (table_of img) e offset bytes))
     unfolding write_change
     write_ends moves t ends =
         let w : EndsIn moves t (taken_anew e.anode (block_count (anodes_of img) e.anode) (table_of img) and_then rest_from (last_reserved img) (old_from blocks e.anode 65535 (disk_size img) 0)) = rw (have_is, last_is, size_is, l.is_loaded, held) at ends in

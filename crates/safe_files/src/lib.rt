@@ -26,10 +26,9 @@ use giving::copied;
 use giving_back::Old;
 use header::disk_size;
 use lookup::EntryAt;
-use placing::Moves;
 use safe_plans::plan_file;
 use safe_steps::used_slots;
-use safe_stores::{Listed, not_listed, put_end, store_file, store_table};
+use safe_stores::{put_end, store_file, store_table};
 use searches::{last_reserved, slots_of};
 use walk_steps::chain_sum;
 use write_lists::put_chain;
@@ -95,7 +94,7 @@ fn plan_write(
     counts: &mut [u16],
     firsts: &mut [u16],
     nexts: &mut [u16],
-) -> Moves
+) -> Result<(), Refusal>
     requires loaded { Loaded image.now counts.old firsts.old nexts.old × ShowsBlocks image.now blocks.now }
     requires slots_len { (length slots.old ≡ 42) × (slots_from slots.old ≡ slot_of image.now) }
     requires reached_entry { ReachedEntry image.now (entered image.now e) × (have ≡ block_count (anodes_of image.now) e.anode.0) }
@@ -134,7 +133,7 @@ fn finish_write(
     offset: u64,
     bytes: &[u8],
     out: &mut [u8],
-) -> Listed
+) -> Result<u32, Refusal>
     requires loaded { Loaded image.old counts.now firsts.now nexts.now × ReachedEntry image.old (entered image.old e) × (is_dir e.kind ≡ false) × (have ≡ block_count (anodes_of image.old) e.anode.0) }
     requires bytes_bound { new_blocks image.old (write_change image.old (table_of image.old) (entered image.old e) offset bytes.now) ≤ free_blocks (anodes_of image.old) }
     requires by_index { (ys : List ℕ) × (safe_steps image.old (write_change image.old (table_of image.old) (entered image.old e) offset bytes.now) ≡ planned (table_from new_counts.now new_firsts.now new_nexts.now slots.now) ys) }
@@ -142,19 +141,13 @@ fn finish_write(
 {
     let count = have as u64 + used_slots(slots) + 1;
     if (out.len() as u64) < count * 514 {
-        return Listed {
-            number: 32,
-            count: 0,
-        };
+        return Err(Refusal::ShortWriteList);
     }
     commit_write(
         image, counts, firsts, nexts, new_counts, new_firsts, new_nexts, slots, e, have, offset,
         bytes, out,
     );
-    Listed {
-        number: 0,
-        count: count as u32,
-    }
+    Ok(count as u32)
 }
 
 // Replaces bytes of a file from the offset on, safely; 27, 28 and 32 leave everything as it was. `blocks`: the image's block table.
@@ -168,7 +161,7 @@ pub fn safe_write_entry(
     offset: u64,
     bytes: &[u8],
     out: &mut [u8],
-) -> Listed
+) -> Result<u32, Refusal>
     requires loaded { Loaded image.old counts.now firsts.now nexts.now × ShowsBlocks image.old blocks.now }
     requires reached_entry { ReachedEntry image.old (entered image.old e) × (is_dir e.kind ≡ false) }
     ensures { SafeLeaves image.old out.old (write_change image.old (table_of image.old) (entered image.old e) offset bytes.now) result image.new out.new }
@@ -177,12 +170,12 @@ pub fn safe_write_entry(
     let mut slots = slots_of(image);
     let need = have as u64 + used_slots(&slots);
     if (chain_sum(counts, nexts, AnodeNo(1)) as u64) < need {
-        return not_listed(Refusal::NoFreeBlock);
+        return Err(Refusal::NoFreeBlock);
     }
     let mut new_counts = copied(counts);
     let mut new_firsts = copied(firsts);
     let mut new_nexts = copied(nexts);
-    let moves = plan_write(
+    plan_write(
         image,
         blocks,
         e,
@@ -191,10 +184,7 @@ pub fn safe_write_entry(
         &mut new_counts,
         &mut new_firsts,
         &mut new_nexts,
-    );
-    if let Moves::Stopped(why) = moves {
-        return not_listed(why);
-    }
+    )?;
     finish_write(
         image,
         counts,

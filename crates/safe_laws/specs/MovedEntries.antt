@@ -1,8 +1,7 @@
 -- The entries of a directory block that stands in another place of the disk: the same, each as far into it.
-use Rattle.std.specs.Prelude.{ℕ, zero, suc, ◌+◌, ◌-◌, ◌*◌, ◌≡◌, refl, List, map, get_or}
+use Rattle.std.specs.Prelude.{ℕ, zero, suc, ◌+◌, ◌-◌, ◌*◌, ◌≡◌, refl, List, map, get_or, Some, None, Ok, Err}
 use Rattle.std.proofs.Common.{arith}
-use Rattle.directory.specs.declared.Walked.{Walked}
-use Rattle.directory.specs.declared.Walked.TheVariants.{Found, End, Fault}
+use Rattle.directory.specs.Entries.{Walked}
 use Rattle.directory.specs.Entries.{name_in, walked_at}
 use Rattle.rules.specs.Walk.{Entered, with_rest, entries_from}
 
@@ -32,6 +31,6 @@ entries_placed b y z (suc k) at = go (walked_at b at) (entries_from k b y (at + 
     same = omega arith
 
     go : (w : Walked) (rest rest' : List Entered) → rest' ≡ map (placed_at y z) rest → with_rest w (name_in b at) (z * 512 + at) rest' ≡ map (placed_at y z) (with_rest w (name_in b at) (y * 512 + at) rest)
-    go End rest rest' e = refl
-    go (Found x) rest rest' e = rw (e, same) refl
-    go (Fault r) rest rest' e = rw same refl
+    go (Ok None) rest rest' e = refl
+    go (Ok (Some x)) rest rest' e = rw (e, same) refl
+    go (Err r) rest rest' e = rw same refl

@@ -1,9 +1,8 @@
 -- The entries of directories of which one block has another place: those of that block stand in the new one, all others where they stood.
-use Rattle.std.specs.Prelude.{ℕ, zero, suc, ◌+◌, ◌*◌, ◌/◌, ◌%◌, ◌≤◌, ◌≡◌, refl, ◌≢◌, ◌⊎◌, Bool, true, false, cond, List, [], ◌∷◌, map, eqb, get_or}
+use Rattle.std.specs.Prelude.{ℕ, zero, suc, ◌+◌, ◌*◌, ◌/◌, ◌%◌, ◌≤◌, ◌≡◌, refl, ◌≢◌, ◌⊎◌, Bool, true, false, cond, List, [], ◌∷◌, map, eqb, get_or, Some, None, Ok, Err}
 use Rattle.std.proofs.Common.{sym, ap, ap₂, ◌∙◌, inl, inr, map-id, arith, eq-eqb, ne_eqb}
 use Rattle.disk.specs.Blocks.{block_of}
-use Rattle.directory.specs.declared.Walked.{Walked}
-use Rattle.directory.specs.declared.Walked.TheVariants.{Found, End, Fault}
+use Rattle.directory.specs.Entries.{Walked}
 use Rattle.directory.specs.Entries.{name_in, walked_at}
 use Rattle.directory.proofs.Laws.{found_at}
 use Rattle.rules.specs.Counting.{gather}
@@ -55,9 +54,9 @@ entries_under y z x g same b (suc k) at l = go (walked_at b at) refl (entries_un
   where
     go : (w : Walked) → walked_at b at ≡ w → ((at' : ℕ) → at' ≤ 510 → map (placed_if y z) (entries_from k b x at') ≡ map g (entries_from k b x at')) →
         map (placed_if y z) (with_rest w (name_in b at) (x * 512 + at) (entries_from k b x (at + get_or b at 0))) ≡ map g (with_rest w (name_in b at) (x * 512 + at) (entries_from k b x (at + get_or b at 0)))
-    go End is rest = refl
-    go (Found e) is rest = ap₂ (λ (a : Entered) (r : List Entered). a ∷ r) (same _ (omega (arith, l))) (rest (at + get_or b at 0) (found_at b at e is).room)
-    go (Fault r) is rest = ap (λ (a : Entered). a ∷ []) (same _ (omega (arith, l)))
+    go (Ok None) is rest = refl
+    go (Ok (Some e)) is rest = ap₂ (λ (a : Entered) (r : List Entered). a ∷ r) (same _ (omega (arith, l))) (rest (at + get_or b at 0) (found_at b at e is).room)
+    go (Err r) is rest = ap (λ (a : Entered). a ∷ []) (same _ (omega (arith, l)))
 
 -- the entries of one block
 pub entries_relocated : (i j : List ℕ) (y z x x' : ℕ) → block_of j x' ≡ block_of i x → Placed y z x x' → entries_in j x' ≡ map (placed_if y z) (entries_in i x)

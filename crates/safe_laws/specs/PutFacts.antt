@@ -1,36 +1,34 @@
 -- The facts of an entry that was put are the ones given.
-use Rattle.std.specs.Prelude.{ℕ, ◌+◌, ◌≤◌, ◌≡◌, refl, Bool, true, false, cond, List, eqb, length, get_or}
+use Rattle.std.specs.Prelude.{ℕ, ◌+◌, ◌≤◌, ◌≡◌, refl, Bool, true, false, cond, List, eqb, length, get_or, Some, None, Ok, Err}
 use Rattle.std.proofs.Common.{sym, ap, ◌∙◌, eqb-true}
 use Rattle.std.proofs.lemmas.Bool.{false≢true}
 use Rattle.disk.specs.declared.Refusal.TheVariants.{DirectoryBlock}
 use Rattle.directory.specs.declared.Entry.{Entry}
 use Rattle.directory.specs.declared.Kind.{Kind}
 use Rattle.directory.specs.declared.Kind.TheVariants.{File, Directory}
-use Rattle.directory.specs.declared.KindRead.TheVariants.{Is, Neither}
-use Rattle.directory.specs.declared.Walked.{Walked}
-use Rattle.directory.specs.declared.Walked.TheVariants.{Found, End, Fault}
+use Rattle.directory.specs.Entries.{Walked}
 use Rattle.directory.specs.Entries.{kind_read, type_of, good_name, entry_length, name_length, comment_length, entry_shaped, entry_in, walked_kind, walked_at, put_entry}
 use Rattle.directory.proofs.Laws.{entry_in-put_entry, name_in-put_entry, walked_at-put_entry}
 use Rattle.change_laws.specs.NewEntry.{comment_put}
 use Rattle.paths.specs.Facts.{comment_in, facts_in}
 
 -- the type byte of an entry that is found is its kind's
-pub found_type : (b : List ℕ) (at : ℕ) (x : Entry) → walked_at b at ≡ Found x → get_or b (at + 1) 0 ≡ type_of x.kind
+pub found_type : (b : List ℕ) (at : ℕ) (x : Entry) → walked_at b at ≡ Ok (Some x) → get_or b (at + 1) 0 ≡ type_of x.kind
 unfolding walked_at kind_read entry_in
 found_type b at x h = go (eqb (get_or b at 0) 0) (entry_shaped b at) (eqb (get_or b (at + 1) 0) 253) (eqb (get_or b (at + 1) 0) 2) refl refl h
   where
     found_kind : (w : Walked) → Kind
-    found_kind (Found e) = e.kind
-    found_kind End = File
-    found_kind (Fault r) = File
+    found_kind (Ok (Some e)) = e.kind
+    found_kind (Ok None) = File
+    found_kind (Err r) = File
 
     found? : Walked → Bool
-    found? (Found e) = true
-    found? End = false
-    found? (Fault r) = false
+    found? (Ok (Some e)) = true
+    found? (Ok None) = false
+    found? (Err r) = false
 
     go : (p q c d : Bool) → eqb (get_or b (at + 1) 0) 253 ≡ c → eqb (get_or b (at + 1) 0) 2 ≡ d →
-        cond p End (cond q (walked_kind (cond c (Is File) (cond d (Is Directory) Neither)) (entry_in b at)) (Fault DirectoryBlock)) ≡ Found x → get_or b (at + 1) 0 ≡ type_of x.kind
+        cond p (Ok None) (cond q (walked_kind (cond c (Ok File) (cond d (Ok Directory) (Err (record { 0 = get_or b (at + 1) 0 })))) (entry_in b at)) (Err DirectoryBlock)) ≡ Ok (Some x) → get_or b (at + 1) 0 ≡ type_of x.kind
     go true q c d i j f = absurd (false≢true (ap found? f))
     go false false c d i j f = absurd (false≢true (ap found? f))
     go false true true d i j f = eqb-true (get_or b (at + 1) 0) 253 i ∙ ap type_of (ap found_kind f)

@@ -9,6 +9,8 @@ use native.Mathlib.Omega.{arith}
 use lib.ListN.{length, take, length-append}
 use lib.Seq.{take_at, drop_at, take_all}
 use borrow.Author.Tests.{eq-eqb, ne_eqb}
+use Rattle.std.specs.Prelude.{Ok, Err}
+use Rattle.disk.specs.declared.Refusal.TheVariants.{ShortWriteList}
 use Rattle.disk.specs.Blocks.{block_of, with_block}
 use Rattle.disk.specs.Root.{slot_of}
 use Rattle.disk.proofs.Laws.{length-block_of}
@@ -42,7 +44,6 @@ use Rattle.safe_laws.specs.OwnMake.{entry_whole, make_own}
 use Rattle.write_lists.specs.Puts.{with_writes}
 use Rattle.anodes.specs.Loaded.{slots_from}
 use Rattle.safe_plans.proofs.Counts.{disk_small, slots_used}
-use Rattle.safe_stores.specs.declared.Listed.{Listed}
 use Rattle.safe_stores.specs.Stored.{TableMoves}
 use Rattle.safe_stores.specs.Leaves.{SafeLeaves}
 use Rattle.safe_stores.proofs.Leaves.{leaves_short, leaves_done}
@@ -260,12 +261,12 @@ module _ {img : List ℕ} {h : ℕ} (r : ReachedDir img h) (new : NewEntry) (m :
     as_counted = omega (arith, counted, ap length p.are, length-append (own_blocks ++ (to ∷ [])) (slot_blocks t.slots 42), length-append own_blocks (to ∷ []))
 
     -- the buffer is too short
-    pub made-short : (n : ℕ) → n ≡ new_blocks img (make_change img (table_of img) h new) + 1 → length out < n * 514 → (l : Listed) → l.number ≡ 32 → l.count ≡ 0 → SafeLeaves img out (make_change img (table_of img) h new) l img out
+    pub made-short : (n : ℕ) → n ≡ new_blocks img (make_change img (table_of img) h new) + 1 → length out < n * 514 → SafeLeaves img out (make_change img (table_of img) h new) (Err ShortWriteList) img out
     made-short n e short = leaves_short img out c enough t ws p.steps (omega (arith, short, e, counted))
 
     -- all is done
     pub made-done : (n : ℕ) → n ≡ new_blocks img (make_change img (table_of img) h new) + 1 → n * 514 ≤ length out → (img' out' : List ℕ) → img' ≡ new_image img (make_change img (table_of img) h new) t p.taken →
-        out' ≡ with_writes out 0 img' (some_block m.own.0 ++ (to ∷ []) ++ slot_blocks t.slots 42 ++ (2 ∷ [])) → (l : Listed) → l.number ≡ 0 → l.count ≡ n → SafeLeaves img out (make_change img (table_of img) h new) l img' out'
-    made-done n e fits img' out' is put l number count =
+        out' ≡ with_writes out 0 img' (some_block m.own.0 ++ (to ∷ []) ++ slot_blocks t.slots 42 ++ (2 ∷ [])) → SafeLeaves img out (make_change img (table_of img) h new) (Ok n) img' out'
+    made-done n e fits img' out' is put =
         leaves_done img out c enough t ws p.steps (omega (arith, fits, e, counted)) (writes_leave r.image (make_own r new) t ws p.steps) (list_inside r.image (make_own r new) t ws p.steps) out 0 refl refl (omega arith)
-        img' out' is (put ∙ ap₂ (λ (i : List ℕ) (k : List ℕ). with_writes out 0 i (k ++ (2 ∷ []))) is (sym p.are)) l number (count ∙ e ∙ ap (λ (k : ℕ). k + 1) (sym counted))
+        img' out' is (put ∙ ap₂ (λ (i : List ℕ) (k : List ℕ). with_writes out 0 i (k ++ (2 ∷ []))) is (sym p.are)) n (e ∙ ap (λ (k : ℕ). k + 1) (sym counted))

@@ -37,18 +37,16 @@ use Rattle.safe_laws.specs.LeftTable.{done_steps}
 use Rattle.giving_back.specs.OldTable.{old_from}
 use Rattle.giving_back.proofs.OldShown.{old_shown}
 use Rattle.safe_steps.specs.Ready.{SettleReady}
-use Rattle.safe_steps.proofs.Steps.{ends_then, ends_done}
+use Rattle.safe_steps.proofs.Steps.{ends_then}
 use Rattle.safe_stores.proofs.Placed.{slots_taken}
 use Rattle.safe_plans.proofs.Ends.{settle_ready, all_end, first-none, first_one}
 use Rattle.safe_plans.proofs.Counts.{disk_small}
 use Rattle.safe_plans.proofs.Parts.{rest_ends, with-found}
 use Rattle.anodes.specs.Loaded.{anodes_from}
-use Rattle.placing.specs.declared.Moves.{Moves}
-use Rattle.placing.specs.declared.Moves.TheVariants.{Done, Stopped as stopped-moves}
+use Rattle.std.specs.Prelude.{Result, Ok, Err}
 use Rattle.placing.specs.Steps.{EndsIn}
 use Rattle.safe_plans.specs.Planned.{ShowsBlocks, anode_with, rest_from}
 use Rattle.making.specs.declared.MakePlan.{MakePlan}
-use Rattle.making.specs.declared.Planned.TheVariants.{Stopped}
 use Rattle.making.specs.Steps.{some_block, Plans, PlanOf}
 use Rattle.making.proofs.Steps.{no_block, one_block}
 use Rattle.safe_makes.specs.SafePlanned.{entry_plan, room_number, RoomReady, SafelyMade}
@@ -105,7 +103,7 @@ module _ {img : List ℕ} {h : ℕ} (r : ReachedDir img h) (new : NewEntry) wher
       first (planned q ys) e = second ys (needed_block no_growth (no_room room₀) h q) e
 
   -- a make that is refused in its planning stops the own steps
-  pub own_stopped : (why : Refusal) (t : Slotted) → PlanOf (Stopped why) img no_growth new.dir (entry_length (length new.name) (length new.comment)) h t → (make_change img (table_of img) h new).steps ≡ refused (number_of why)
+  pub own_stopped : (why : Refusal) (t : Slotted) → PlanOf (Err why) img no_growth new.dir (entry_length (length new.name) (length new.comment)) h t → (make_change img (table_of img) h new).steps ≡ refused (number_of why)
   unfolding make_change make_in make_steps made
   own_stopped why t (late, stops) =
       let s = table_of img in
@@ -277,7 +275,7 @@ module _ {img : List ℕ} {h : ℕ} (r : ReachedDir img h) (new : NewEntry) wher
 
       -- the entry's block is refused
       pub entry_stopped : (why : Refusal) → entry_plan m.parents.0 (m.start / 512) t ≡ refused (number_of why) → safe_steps img (make_change img (table_of img) h new) ≡ refused (number_of why)
-      entry_stopped why e = all_end img c (stopped-moves why) t (refused (number_of why)) (first_stops (number_of why) e) (then_stop (refused (number_of why)) (rest_from (last_reserved img) (old_blocks img c)) (number_of why) refl)
+      entry_stopped why e = all_end img c (Err why) t (refused (number_of why)) (first_stops (number_of why) e) (then_stop (refused (number_of why)) (rest_from (last_reserved img) (old_blocks img c)) (number_of why) refl)
 
       module _ (q : Slotted) (to : ℕ) (entry : entry_plan m.parents.0 (m.start / 512) t ≡ planned q (to ∷ [])) where
         -- what is left of the plan can follow
@@ -285,7 +283,7 @@ module _ {img : List ℕ} {h : ℕ} (r : ReachedDir img h) (new : NewEntry) wher
         rest_ready olds e = settle_ready r.image (make_own r new) (made_leaves r new named commented) q (some_block m.own.0 ++ (to ∷ [])) (first_taken q to entry) olds e
 
         -- and then all is done, or refused
-        pub all_ends : (olds : List ℕ) → olds ≡ old_blocks img (make_change img (table_of img) h new) → (moves : Moves) (u : Slotted) → EndsIn moves u (reslotted_from 42 0 q and_then given_back (last_reserved img) olds) → EndsIn moves u (safe_steps img (make_change img (table_of img) h new))
+        pub all_ends : (olds : List ℕ) → olds ≡ old_blocks img (make_change img (table_of img) h new) → (moves : Result (Unit {0}) Refusal) (u : Slotted) → EndsIn moves u (reslotted_from 42 0 q and_then given_back (last_reserved img) olds) → EndsIn moves u (safe_steps img (make_change img (table_of img) h new))
         all_ends olds e moves u w =
             let xs = some_block m.own.0 ++ (to ∷ []) in
             all_end img c moves u (planned q xs) (first_taken q to entry)
@@ -317,22 +315,22 @@ module _ {img : List ℕ} {h : ℕ} (r : ReachedDir img h) (new : NewEntry) wher
           pub settles_made : SettleReady last (old_from blocks 0 moved size 0) q
           settles_made = subst (λ (l : ℕ). SettleReady l (old_from blocks 0 moved size 0) q) (sym last_is) (rest_ready (old_from blocks 0 moved size 0) olds_are)
 
-          module _ (moves : Moves) (u : Slotted) (ends : EndsIn moves u (reslotted_from 42 0 q and_then given_back last (old_from blocks 0 moved size 0))) where
+          module _ (moves : Result (Unit {0}) Refusal) (u : Slotted) (ends : EndsIn moves u (reslotted_from 42 0 q and_then given_back last (old_from blocks 0 moved size 0))) where
             -- the end of all steps
             plan_ends : EndsIn moves u (safe_steps img c)
             plan_ends = all_ends (old_from blocks 0 moved size 0) olds_are moves u (subst (λ (l : ℕ). EndsIn moves u (reslotted_from 42 0 q and_then given_back l (old_from blocks 0 moved size 0))) last_is ends)
 
             -- they are done
-            pub done-made : moves ≡ Done → SafelyMade img h new m to u
-            done-made e = let (ws, done) = ends_done moves u (safe_steps img c) e plan_ends in safely_made u ws done
+            pub done-made : (done : Unit {0}) → moves ≡ Ok done → SafelyMade img h new m to u
+            done-made done e = let ends : EndsIn (Ok done) u (safe_steps img c) = rw e at plan_ends in safely_made u ends.0 ends.1
 
             -- or refused
-            pub stopped_made : (why : Refusal) → moves ≡ stopped-moves why → safe_steps img (make_change img (table_of img) h new) ≡ refused (number_of why)
-            stopped_made why e = let stops : EndsIn (stopped-moves why) u (safe_steps img c) = rw e at plan_ends in stops
+            pub stopped_made : (why : Refusal) → moves ≡ Err why → safe_steps img (make_change img (table_of img) h new) ≡ refused (number_of why)
+            stopped_made why e = let stops : EndsIn (Err why) u (safe_steps img c) = rw e at plan_ends in stops
 
   -- a make that is refused in its planning is refused
-  pub plan_stopped : (why : Refusal) (t : Slotted) → PlanOf (Stopped why) img no_growth new.dir (entry_length (length new.name) (length new.comment)) h t → safe_steps img (make_change img (table_of img) h new) ≡ refused (number_of why)
+  pub plan_stopped : (why : Refusal) (t : Slotted) → PlanOf (Err why) img no_growth new.dir (entry_length (length new.name) (length new.comment)) h t → safe_steps img (make_change img (table_of img) h new) ≡ refused (number_of why)
   plan_stopped why t p =
       let c = make_change img (table_of img) h new in
       let n = number_of why in
-      all_end img c (stopped-moves why) t (refused n) (then_stop c.steps (all_relocated c.changing) n (own_stopped why t p)) (then_stop (refused n) (rest_from (last_reserved img) (old_blocks img c)) n refl)
+      all_end img c (Err why) t (refused n) (then_stop c.steps (all_relocated c.changing) n (own_stopped why t p)) (then_stop (refused n) (rest_from (last_reserved img) (old_blocks img c)) n refl)

@@ -1,8 +1,9 @@
 -- A safe make planned on tables: the block that gets the entry, and all its steps.
-use Rattle.std.specs.Prelude.{ℕ, ◌%◌, ◌<◌, ◌≡◌, cond, List, [], ◌∷◌, ◌++◌, ◌≢◌, eqb, length}
+use Rattle.std.specs.Prelude.{ℕ, ◌%◌, ◌<◌, ◌≡◌, cond, List, [], ◌∷◌, ◌++◌, Result, Ok, Err, ◌≢◌, eqb, length}
 use Rattle.std.proofs.Math.Option.{none, some}
 use Rattle.disk.specs.Root.{slot_of}
 use Rattle.disk.specs.Blocks.{block_of}
+use Rattle.disk.specs.declared.Refusal.{Refusal}
 use Rattle.disk.specs.Refusals.{number_of}
 use Rattle.rules.specs.Anodes.{limit, exists_by, anodes_of}
 use Rattle.rules.specs.Chains.{chain_of}
@@ -15,8 +16,7 @@ use Rattle.safe_plans.specs.Planned.{anode_with}
 use Rattle.placing.specs.States.{GoodState}
 use Rattle.making.specs.declared.MakePlan.{MakePlan}
 use Rattle.making.specs.Steps.{some_block}
-use Rattle.safe_makes.specs.declared.SafePlanned.{SafePlanned}
-use Rattle.safe_makes.specs.declared.SafePlanned.TheVariants.{Make, Stopped}
+use Rattle.safe_makes.specs.declared.SafePlan.{SafePlan}
 
 -- ---- the block that gets the entry
 
@@ -54,6 +54,6 @@ pub record SafelyMade (img : List ℕ) (h : ℕ) (new : NewEntry) (m : MakePlan)
   pub no_room : m.parents.0 ≢ 0 → (room_for img (anodes_of img) h new ≡ none) × (m.start % 512 ≡ 16)
 
 -- what the planning of a safe make answers: the plan, or a refusal of all steps
-abbrev pub SafePlanOf : SafePlanned → List ℕ → ℕ → NewEntry → Slotted → Type 0
-SafePlanOf (Make m) img h new t = SafelyMade img h new m.plan m.to.0 t
-SafePlanOf (Stopped why) img h new t = safe_steps img (make_change img (table_of img) h new) ≡ refused (number_of why)
+abbrev pub SafePlanOf : Result SafePlan Refusal → List ℕ → ℕ → NewEntry → Slotted → Type 0
+SafePlanOf (Ok m) img h new t = SafelyMade img h new m.plan m.to.0 t
+SafePlanOf (Err why) img h new t = safe_steps img (make_change img (table_of img) h new) ≡ refused (number_of why)

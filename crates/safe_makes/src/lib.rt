@@ -22,18 +22,17 @@ ghost use Rattle.making.specs.Steps.{some_block};
 ghost use Rattle.safe_makes.specs.SafePlanned.{entry_plan, room_number, RoomReady, start_bytes, SafelyMade, SafePlanOf};
 
 use block_copies::copy_block;
-use directory::{Kind, entry_len, is_directory};
+use directory::{Kind, entry_len};
 use disk::{AnodeNo, BlockNo, Refusal};
 use edits::{put_header, put_new_entry};
 use giving::copied;
 use giving_back::Old;
 use header::disk_size;
-use making::{MakePlan, Planned, header_new, plan_make};
-use placing::{Moves, Step};
+use making::{MakePlan, header_new, plan_make};
 use relocating::relocate;
 use safe_plans::anode_with;
 use safe_steps::{settle, used_slots};
-use safe_stores::{Listed, not_listed, put_end, store_table};
+use safe_stores::{put_end, store_table};
 use searches::{last_reserved, slots_of};
 use walk_steps::chain_sum;
 use write_lists::put_write;
@@ -45,19 +44,12 @@ struct SafePlan {
     to: BlockNo,
 }
 
-// What the planning of a safe make answers.
-#[derive(Clone, Copy)]
-enum SafePlanned {
-    Make(SafePlan),
-    Stopped(Refusal),
-}
-
 // How many blocks a safe make takes: a new directory's own, the one that gets the entry, and one for each anode block.
 fn new_count(kind: Kind, slots: &[u16]) -> u64
     ensures { (result ≡ cond (is_dir kind) 1 0 + 1 + length (slot_blocks (slots_from slots.now) 42)) × (result ≤ 44) }
 {
     let used = used_slots(slots) + 1;
-    if is_directory(kind) {
+    if kind.is_directory() {
         return used + 1;
     }
     used
@@ -81,14 +73,14 @@ fn entry_block(
     counts: &mut [u16],
     firsts: &mut [u16],
     nexts: &mut [u16],
-) -> Step
+) -> Result<BlockNo, Refusal>
     requires anode_tables { AnodeTables counts.old firsts.old nexts.old × (plan.parents.0 ≡ 0 → plan.start / 512 ≤ 65535) }
     requires by_index { (last : ℕ) × (slots : ℕ → ℕ) × (plan.parents.0 ≡ 0 → RoomReady last (plan.start / 512) head.0 (slotted (anodes_from counts.old firsts.old nexts.old) slots)) }
     ensures { (slots : ℕ → ℕ) → step_plan result 1 (slotted (anodes_from counts.new firsts.new nexts.new) slots) ≡ entry_plan plan.parents.0 (plan.start / 512) (slotted (anodes_from counts.old firsts.old nexts.old) slots) }
 {
     let parents = plan.parents;
     if parents.0 != 0 {
-        return Step::Moved(parents);
+        return Ok(parents);
     }
     let owner = anode_with(firsts, nexts, head, room_block(plan));
     relocate(owner, counts, firsts, nexts)
@@ -106,34 +98,23 @@ fn plan_safely(
     counts: &mut [u16],
     firsts: &mut [u16],
     nexts: &mut [u16],
-) -> SafePlanned
+) -> Result<SafePlan, Refusal>
     requires loaded { Loaded image.now counts.old firsts.old nexts.old × ShowsBlocks image.now blocks.now × (no_directory image.now (anodes_of image.now) head.0 ≡ false) }
     requires slots_value { (slots_from slots.old ≡ slot_of image.now) × (length slots.old ≡ 42) }
     requires name_value { (good_name name.now ≡ true) × (good_comment comment.now ≡ true) }
     ensures { (day minute tick protection : ℕ) → SafePlanOf result image.now head.0 (new_entry (is_dir kind) name.now comment.now day minute tick protection) (table_from counts.new firsts.new nexts.new slots.new) }
 {
     let len = entry_len(name.len() as u8, comment.len() as u8);
-    let planned = plan_make(false, image, slots, kind, len, head, counts, firsts, nexts);
-    let plan = match planned {
-        Planned::Make(plan) => plan,
-        Planned::Stopped(r) => return SafePlanned::Stopped(r),
-    };
-    let step = entry_block(plan, head, counts, firsts, nexts);
-    let to = match step {
-        Step::Moved(z) => z,
-        Step::Refused(r) => return SafePlanned::Stopped(r),
-    };
+    let plan = plan_make(false, image, slots, kind, len, head, counts, firsts, nexts)?;
+    let to = entry_block(plan, head, counts, firsts, nexts)?;
     let old = Old {
         head: AnodeNo(0),
         moved: room_block(plan),
     };
     let last = last_reserved(image);
     let size = disk_size(image) as u16;
-    let moves = settle(slots, last, size, blocks, old, counts, firsts, nexts);
-    match moves {
-        Moves::Done => SafePlanned::Make(SafePlan { plan, to }),
-        Moves::Stopped(r) => SafePlanned::Stopped(r),
-    }
+    settle(slots, last, size, blocks, old, counts, firsts, nexts)?;
+    Ok(SafePlan { plan, to })
 }
 
 // Stores what the entry's block `to` starts with: the block that has room, else a new directory block.
@@ -231,7 +212,7 @@ fn finish_make(
     protection: u8,
     count: u64,
     out: &mut [u8],
-) -> Listed
+) -> Result<u32, Refusal>
     requires loaded { Loaded image.old counts.now firsts.now nexts.now }
     requires head_value { (no_directory image.old (anodes_of image.old) head.0 ≡ false) × (parent.0 ≡ parent_of (reached_dirs image.old (anodes_of image.old)) head.0) }
     requires name_value { (good_name name.now ≡ true) × (good_comment comment.now ≡ true) }
@@ -240,10 +221,7 @@ fn finish_make(
     ensures { SafeLeaves image.old out.old (make_change image.old (table_of image.old) head.0 (new_entry (is_dir kind) name.now comment.now day minute tick protection)) result image.new out.new }
 {
     if out.len() < (count as usize) * 514 {
-        return Listed {
-            number: 32,
-            count: 0,
-        };
+        return Err(Refusal::ShortWriteList);
     }
     store_make(
         image, counts, firsts, nexts, new_counts, new_firsts, new_nexts, slots, made, head, parent,
@@ -251,10 +229,7 @@ fn finish_make(
     );
     let plan = made.plan;
     list_make(image, slots, plan.own, made.to, out);
-    Listed {
-        number: 0,
-        count: count as u32,
-    }
+    Ok(count as u32)
 }
 
 // Plans a safe make on copies of the tables, and finishes it; `count` is the number of writes.
@@ -279,7 +254,7 @@ fn make_on_copies(
     protection: u8,
     count: u64,
     out: &mut [u8],
-) -> Listed
+) -> Result<u32, Refusal>
     requires loaded { Loaded image.old counts.now firsts.now nexts.now × Loaded image.old new_counts.old new_firsts.old new_nexts.old × ShowsBlocks image.old blocks.now }
     requires slots_value { (slots_from slots.old ≡ slot_of image.old) × (length slots.old ≡ 42) }
     requires head_value { (no_directory image.old (anodes_of image.old) head.0 ≡ false) × (parent.0 ≡ parent_of (reached_dirs image.old (anodes_of image.old)) head.0) }
@@ -287,13 +262,9 @@ fn make_on_copies(
     requires count_value { (count ≡ new_blocks image.old (make_change image.old (table_of image.old) head.0 (new_entry (is_dir kind) name.now comment.now day minute tick protection)) + 1) × (count ≤ 45) × (new_blocks image.old (make_change image.old (table_of image.old) head.0 (new_entry (is_dir kind) name.now comment.now day minute tick protection)) ≤ free_blocks (anodes_of image.old)) }
     ensures { SafeLeaves image.old out.old (make_change image.old (table_of image.old) head.0 (new_entry (is_dir kind) name.now comment.now day minute tick protection)) result image.new out.new }
 {
-    let planned = plan_safely(
+    let made = plan_safely(
         image, blocks, slots, kind, name, comment, head, new_counts, new_firsts, new_nexts,
-    );
-    let made = match planned {
-        SafePlanned::Make(made) => made,
-        SafePlanned::Stopped(r) => return not_listed(r),
-    };
+    )?;
     finish_make(
         image, counts, firsts, nexts, new_counts, new_firsts, new_nexts, slots, made, head, parent,
         kind, name, comment, day, minute, tick, protection, count, out,
@@ -317,7 +288,7 @@ pub fn safe_make_entry(
     tick: u16,
     protection: u8,
     out: &mut [u8],
-) -> Listed
+) -> Result<u32, Refusal>
     requires loaded { Loaded image.old counts.now firsts.now nexts.now × ShowsBlocks image.old blocks.now }
     requires head_value { (no_directory image.old (anodes_of image.old) head.0 ≡ false) × (parent.0 ≡ parent_of (reached_dirs image.old (anodes_of image.old)) head.0) }
     requires name_value { (good_name name.now ≡ true) × (good_comment comment.now ≡ true) }
@@ -326,7 +297,7 @@ pub fn safe_make_entry(
     let mut slots = slots_of(image);
     let need = new_count(kind, &slots);
     if (chain_sum(counts, nexts, AnodeNo(1)) as u64) < need {
-        return not_listed(Refusal::NoFreeBlock);
+        return Err(Refusal::NoFreeBlock);
     }
     let mut new_counts = copied(counts);
     let mut new_firsts = copied(firsts);

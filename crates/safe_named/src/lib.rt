@@ -7,16 +7,15 @@ ghost use Rattle.safe_plans.specs.Planned.{ShowsBlocks};
 ghost use Rattle.safe_named.specs.After.{CallLeaves};
 ghost use Rattle.safe_named.specs.Asked.{call_of};
 
-use directory::{KindRead, kind_of};
+use directory::Kind;
 use disk::{AnodeNo, Refusal};
-use find::{Search, find_file, find_removable, find_span};
-use lookup::{Lookup, entry_named, is_reached, parent_of};
+use find::{find_file, find_removable, find_span};
+use lookup::{entry_named, is_reached, parent_of};
 use named_changes::{Asked, wrong_entry};
 use safe_files::safe_write_entry;
 use safe_makes::safe_make_entry;
 use safe_removes::safe_remove_entry;
 use safe_resizes::safe_resize_entry;
-use safe_stores::{Listed, not_listed};
 
 // Writes bytes of a file safely from the offset on; 21, 22, 24, 26, then 27, 28 and 32.
 fn safe_write_named(
@@ -33,18 +32,14 @@ fn safe_write_named(
     offset: u64,
     bytes: &[u8],
     out: &mut [u8],
-) -> Listed
+) -> Result<u32, Refusal>
     requires { OpenAnodes image.old counts.now firsts.now nexts.now queue.now heads.now dirs × ShowsBlocks image.old blocks.now }
     ensures { CallLeaves image.old out.old (safe_write head.0 name.now offset bytes.now) result image.new out.new }
 {
     let len = bytes.len();
-    let found = find_span(
+    let e = find_span(
         image, firsts, nexts, queue, heads, dirs, head, name, offset, len,
-    );
-    let e = match found {
-        Search::Found(e) => e,
-        Search::Refused(r) => return not_listed(r),
-    };
+    )?;
     safe_write_entry(image, blocks, counts, firsts, nexts, e, offset, bytes, out)
 }
 
@@ -62,15 +57,11 @@ fn safe_resize_named(
     name: &[u8],
     size: u64,
     out: &mut [u8],
-) -> Listed
+) -> Result<u32, Refusal>
     requires { OpenAnodes image.old counts.now firsts.now nexts.now queue.now heads.now dirs × ShowsBlocks image.old blocks.now }
     ensures { CallLeaves image.old out.old (safe_resize head.0 name.now size) result image.new out.new }
 {
-    let found = find_file(image, firsts, nexts, queue, heads, dirs, head, name);
-    let e = match found {
-        Search::Found(e) => e,
-        Search::Refused(r) => return not_listed(r),
-    };
+    let e = find_file(image, firsts, nexts, queue, heads, dirs, head, name)?;
     if e.size as u64 == size {
         let none = [0u8; 0];
         return safe_write_entry(image, blocks, counts, firsts, nexts, e, 0, &none, out);
@@ -91,15 +82,11 @@ fn safe_remove_named(
     head: AnodeNo,
     name: &[u8],
     out: &mut [u8],
-) -> Listed
+) -> Result<u32, Refusal>
     requires { OpenAnodes image.old counts.now firsts.now nexts.now queue.now heads.now dirs × ShowsBlocks image.old blocks.now }
     ensures { CallLeaves image.old out.old (safe_remove head.0 name.now) result image.new out.new }
 {
-    let found = find_removable(image, firsts, nexts, queue, heads, dirs, head, name);
-    let e = match found {
-        Search::Found(e) => e,
-        Search::Refused(r) => return not_listed(r),
-    };
+    let e = find_removable(image, firsts, nexts, queue, heads, dirs, head, name)?;
     safe_remove_entry(image, blocks, counts, firsts, nexts, head, e, out)
 }
 
@@ -123,23 +110,21 @@ fn safe_make_named(
     tick: u16,
     protection: u8,
     out: &mut [u8],
-) -> Listed
+) -> Result<u32, Refusal>
     requires { Open image.old counts.now firsts.now nexts.now queue.now parents.now heads.now dirs × ShowsBlocks image.old blocks.now }
     ensures { CallLeaves image.old out.old (safe_make head.0 kind name.now comment.now day minute tick protection) result image.new out.new }
 {
-    let read = kind_of(kind);
-    let KindRead::Is(k) = read else {
-        return not_listed(Refusal::BadArgument);
+    let Ok(k) = Kind::try_from(kind) else {
+        return Err(Refusal::BadArgument);
     };
     if wrong_entry(name, comment) {
-        return not_listed(Refusal::BadArgument);
+        return Err(Refusal::BadArgument);
     }
     if !is_reached(heads, queue, dirs, head) {
-        return not_listed(Refusal::NoDirectory);
+        return Err(Refusal::NoDirectory);
     }
-    let found = entry_named(image, firsts, nexts, head, name);
-    if let Lookup::Found(_) = found {
-        return not_listed(Refusal::AlreadyThere);
+    if entry_named(image, firsts, nexts, head, name).is_some() {
+        return Err(Refusal::AlreadyThere);
     }
     let parent = parent_of(queue, parents, dirs, head);
     safe_make_entry(
@@ -164,7 +149,7 @@ pub fn safe_change_named(
     asked: Asked,
     text: &[u8],
     out: &mut [u8],
-) -> Listed
+) -> Result<u32, Refusal>
     requires { Open image.old counts.now firsts.now nexts.now queue.now parents.now heads.now dirs × ShowsBlocks image.old blocks.now }
     ensures { CallLeaves image.old out.old (call_of asked head.0 name.now text.now) result image.new out.new }
 {

@@ -3,6 +3,8 @@ use Prim.Native.Nat.{ℕ}
 use mathlib.Core.Path.{◌≡◌, refl, sym, ap, ap₂, subst, fun_ext, ◌∙◌}
 use mathlib.Core.List.{List, [], ◌∷◌, ◌++◌, append-nil}
 use native.Mathlib.Omega.{arith}
+use Rattle.std.specs.Prelude.{Result, Ok, Err}
+use Rattle.disk.specs.declared.Refusal.{Refusal}
 use Rattle.disk.specs.Root.{slot_of}
 use Rattle.disk.specs.Refusals.{number_of}
 use Rattle.rules.specs.Chains.{system_by}
@@ -14,8 +16,6 @@ use Rattle.change_laws.specs.Image.{AcceptedImage}
 use Rattle.safe_rules.specs.SafePlans.{SafeChange, all_relocated, relocated, reslotted_from, given_back, old_blocks, taking_steps, with_taken, safe_steps}
 use Rattle.safe_laws.specs.AllTaken.{OwnSteps, takes_first}
 use Rattle.safe_laws.specs.Limbo.{LeavesGood, limbo-left, old-placed}
-use Rattle.placing.specs.declared.Moves.{Moves}
-use Rattle.placing.specs.declared.Moves.TheVariants.{Done, Stopped}
 use Rattle.placing.specs.Steps.{EndsIn}
 use Rattle.placing.specs.States.{GoodState}
 use Rattle.giving_back.specs.Backs.{InLimbo}
@@ -48,17 +48,17 @@ module _ {img : List ℕ} (image : AcceptedImage img) {left : ℕ → Type 0} {c
 -- ---- the parts are all its steps
 
 -- the taking steps, then the old blocks back, forgetting which blocks changed hands
-back_ends : (img : List ℕ) (c : SafeChange) (moves : Moves) (t : Slotted) → EndsIn moves t (taking_steps c and_then given_back (last_reserved img) (old_blocks img c)) → EndsIn moves t (safe_steps img c)
+back_ends : (img : List ℕ) (c : SafeChange) (moves : Result (Unit {0}) Refusal) (t : Slotted) → EndsIn moves t (taking_steps c and_then given_back (last_reserved img) (old_blocks img c)) → EndsIn moves t (safe_steps img c)
 unfolding safe_steps ◌and_then◌ after with_taken
 back_ends img c moves t w = go (taking_steps c) w
   where
     back : Slotted → Plan Slotted
     back s = given_back (last_reserved img) (old_blocks img c) s
 
-    last : (ys : List ℕ) (q : Plan Slotted) (moves : Moves) → EndsIn moves t (after ys q) → EndsIn moves t (with_taken ys q)
+    last : (ys : List ℕ) (q : Plan Slotted) (moves : Result (Unit {0}) Refusal) → EndsIn moves t (after ys q) → EndsIn moves t (with_taken ys q)
     last ys (refused n) moves w = w
-    last ys (planned u zs) Done (vs, e) = (ys, ap (λ (x : Slotted). planned x ys) (planned_same u t (ys ++ zs) vs e).0)
-    last ys (planned u zs) (Stopped why) e = absurd (planned≢refused u (ys ++ zs) (number_of why) e)
+    last ys (planned u zs) (Ok d) (vs, e) = (ys, ap (λ (x : Slotted). planned x ys) (planned_same u t (ys ++ zs) vs e).0)
+    last ys (planned u zs) (Err why) e = absurd (planned≢refused u (ys ++ zs) (number_of why) e)
 
     go : (p : Plan Slotted) → EndsIn moves t (p and_then back) → EndsIn moves t (elim p [ refused n ↦ refused n | planned s ys ↦ with_taken ys (back s) ])
     go (refused n) w = w
@@ -75,7 +75,7 @@ one-after : (p : Plan Slotted) (y : ℕ) → p and_then all_relocated (y ∷ [])
 unfolding all_relocated
 one-after p y = ap (λ (f : Slotted → Plan Slotted). p and_then f) (fun_ext (λ s. none_after (relocated y s)))
 
-module _ (img : List ℕ) (c : SafeChange) (moves : Moves) (t : Slotted) where
+module _ (img : List ℕ) (c : SafeChange) (moves : Result (Unit {0}) Refusal) (t : Slotted) where
   -- where the own steps with the directory block's are the plan q, and then the rest follows
   pub all_end : (q : Plan Slotted) → c.steps and_then all_relocated c.changing ≡ q → EndsIn moves t (q and_then rest_from (last_reserved img) (old_blocks img c)) → EndsIn moves t (safe_steps img c)
   unfolding taking_steps rest_from

@@ -12,10 +12,10 @@ ghost use Rattle.giving.specs.Steps.{LinkedFrom};
 ghost use Rattle.giving_back.specs.OldTable.{old_from};
 ghost use Rattle.safe_plans.specs.Planned.{anode_with, rest_from, FileReady, ResizeReady, MoveReady};
 
-use disk::{AnodeNo, BlockNo};
+use disk::{AnodeNo, BlockNo, Refusal};
 use giving::drop_chain;
 use giving_back::Old;
-use placing::{Moves, Step, stopped};
+use links::Links;
 use relocating::relocate;
 use safe_steps::{settle, take_anew};
 use tables::entry;
@@ -24,17 +24,10 @@ use tables::entry;
 pub fn anode_with(firsts: &[u16], nexts: &[u16], head: AnodeNo, y: BlockNo) -> AnodeNo
     ensures { result.0 ≡ anode_with (λ a. get_or firsts.now a 0) y.0 (chain_of (λ a. get_or nexts.now a 0) 3444 head.0) }
 {
-    let mut at = head;
-    let mut fuel: usize = 3444;
-    while 0 < fuel {
-        if at.0 == 0 {
-            return AnodeNo(0);
+    for a in Links::along(nexts, head) {
+        if entry(firsts, a.0 as usize) == y.0 {
+            return a;
         }
-        if entry(firsts, at.0 as usize) == y.0 {
-            return at;
-        }
-        at = AnodeNo(entry(nexts, at.0 as usize));
-        fuel -= 1;
     }
     AnodeNo(0)
 }
@@ -51,15 +44,12 @@ pub fn plan_file(
     counts: &mut [u16],
     firsts: &mut [u16],
     nexts: &mut [u16],
-) -> Moves
+) -> Result<(), Refusal>
     requires anode_tables { AnodeTables counts.old firsts.old nexts.old × (length slots.old ≡ 42) }
     requires file_ready { FileReady last.0 (old_from blocks.now old.head.0 old.moved.0 size 0) head.0 want (table_from counts.old firsts.old nexts.old slots.old) }
     ensures { EndsIn result (table_from counts.new firsts.new nexts.new slots.new) (taken_anew head.0 want (table_from counts.old firsts.old nexts.old slots.old) and_then rest_from last.0 (old_from blocks.now old.head.0 old.moved.0 size 0)) }
 {
-    let moves = take_anew(slots, want, head, counts, firsts, nexts);
-    let Moves::Done = moves else {
-        return moves;
-    };
+    take_anew(slots, want, head, counts, firsts, nexts)?;
     settle(slots, last, size, blocks, old, counts, firsts, nexts)
 }
 
@@ -74,15 +64,12 @@ fn plan_move(
     counts: &mut [u16],
     firsts: &mut [u16],
     nexts: &mut [u16],
-) -> Moves
+) -> Result<(), Refusal>
     requires anode_tables { AnodeTables counts.old firsts.old nexts.old × (length slots.old ≡ 42) }
     requires move_ready { MoveReady last.0 (old_from blocks.now old.head.0 old.moved.0 size 0) old.moved.0 owner.0 (table_from counts.old firsts.old nexts.old slots.old) }
     ensures { EndsIn result (table_from counts.new firsts.new nexts.new slots.new) (relocated old.moved.0 (table_from counts.old firsts.old nexts.old slots.old) and_then rest_from last.0 (old_from blocks.now old.head.0 old.moved.0 size 0)) }
 {
-    let step = relocate(owner, counts, firsts, nexts);
-    let Step::Moved(_) = step else {
-        return stopped(step);
-    };
+    relocate(owner, counts, firsts, nexts)?;
     settle(slots, last, size, blocks, old, counts, firsts, nexts)
 }
 
@@ -99,15 +86,12 @@ pub fn plan_resize(
     counts: &mut [u16],
     firsts: &mut [u16],
     nexts: &mut [u16],
-) -> Moves
+) -> Result<(), Refusal>
     requires anode_tables { AnodeTables counts.old firsts.old nexts.old × (length slots.old ≡ 42) }
     requires resize_ready { ResizeReady last.0 (old_from blocks.now old.head.0 old.moved.0 size 0) head.0 want old.moved.0 owner.0 (table_from counts.old firsts.old nexts.old slots.old) }
     ensures { EndsIn result (table_from counts.new firsts.new nexts.new slots.new) (taken_anew head.0 want (table_from counts.old firsts.old nexts.old slots.old) and_then relocated old.moved.0 and_then rest_from last.0 (old_from blocks.now old.head.0 old.moved.0 size 0)) }
 {
-    let moves = take_anew(slots, want, head, counts, firsts, nexts);
-    let Moves::Done = moves else {
-        return moves;
-    };
+    take_anew(slots, want, head, counts, firsts, nexts)?;
     plan_move(slots, last, size, blocks, old, owner, counts, firsts, nexts)
 }
 
@@ -123,7 +107,7 @@ pub fn plan_remove(
     counts: &mut [u16],
     firsts: &mut [u16],
     nexts: &mut [u16],
-) -> Moves
+) -> Result<(), Refusal>
     requires anode_tables { AnodeTables counts.old firsts.old nexts.old × (length slots.old ≡ 42) }
     requires linked_from { LinkedFrom (anodes_from counts.old firsts.old nexts.old) head.0 × MoveReady last.0 (old_from blocks.now old.head.0 old.moved.0 size 0) old.moved.0 owner.0 (chain_zeroed (table_from counts.old firsts.old nexts.old slots.old) head.0) }
     ensures { EndsIn result (table_from counts.new firsts.new nexts.new slots.new) (relocated old.moved.0 (chain_zeroed (table_from counts.old firsts.old nexts.old slots.old) head.0) and_then rest_from last.0 (old_from blocks.now old.head.0 old.moved.0 size 0)) }

@@ -6,6 +6,8 @@ use native.Mathlib.Omega.{arith}
 use native.Mathlib.Nat.{le_of_eq}
 use lib.ListN.{length}
 use lib.Seq.{take_all}
+use Rattle.std.specs.Prelude.{Ok, Err}
+use Rattle.disk.specs.declared.Refusal.TheVariants.{ShortWriteList}
 use Rattle.disk.specs.Blocks.{block_of, with_block}
 use Rattle.disk.proofs.Laws.{length-block_of}
 use Rattle.disk.proofs.Store.{length-with_block}
@@ -28,7 +30,6 @@ use Rattle.edits.specs.Entries.{EntryStands}
 use Rattle.write_lists.specs.Puts.{with_writes}
 use Rattle.write_lists.proofs.Laws.{no_write}
 use Rattle.safe_stores.specs.Stored.{TableMoves}
-use Rattle.safe_stores.specs.declared.Listed.{Listed}
 use Rattle.safe_stores.specs.Leaves.{SafeLeaves}
 use Rattle.safe_stores.proofs.Leaves.{leaves_short, leaves_done}
 use Rattle.safe_stores.proofs.Placed.{root_inside, list_inside, slot_inside, table_moves, table-length, entry_stays}
@@ -139,12 +140,12 @@ module _ {img : List ℕ} {k : ℕ} {e : Entered} (m : EntryIn img k e) (t : Slo
 
   module _ (out : List ℕ) (enough : new_blocks img (remove_change img (table_of img) e) ≤ free_blocks (anodes_of img)) where
     -- 32
-    pub short_leaves : length out < (length (slot_blocks t.slots 42) + 2) * 514 → (r : Listed) → r.number ≡ 32 → r.count ≡ 0 → SafeLeaves img out (remove_change img (table_of img) e) r img out
+    pub short_leaves : length out < (length (slot_blocks t.slots 42) + 2) * 514 → SafeLeaves img out (remove_change img (table_of img) e) (Err ShortWriteList) img out
     short_leaves p = leaves_short img out c enough t ys plan (omega (arith, p))
 
     -- DONE
     pub done_leaves : (length (slot_blocks t.slots 42) + 2) * 514 ≤ length out → (i mid new : List ℕ) (place : ℕ) → i ≡ new_image img (remove_change img (table_of img) e) t (z ∷ slot_blocks t.slots 42) → mid ≡ with_writes out 0 i (z ∷ []) → place ≡ 0 + 514 →
-        new ≡ with_writes mid place i (slot_blocks t.slots 42 ++ (2 ∷ [])) → (r : Listed) → r.number ≡ 0 → r.count ≡ length (slot_blocks t.slots 42) + 2 → SafeLeaves img out (remove_change img (table_of img) e) r i new
-    done_leaves fits i mid new place i_is first next is r number count =
+        new ≡ with_writes mid place i (slot_blocks t.slots 42 ++ (2 ∷ [])) → (count : ℕ) → count ≡ length (slot_blocks t.slots 42) + 2 → SafeLeaves img out (remove_change img (table_of img) e) (Ok count) i new
+    done_leaves fits i mid new place i_is first next is count counts =
         leaves_done img out c enough t ys plan (omega (arith, fits)) (writes_leave image (remove_own m) t ys plan) (list_inside image (remove_own m) t ys plan) out 0 refl refl (omega arith) i new i_is
-        (list_left i out mid new place i_is first next is) r number (omega (arith, count))
+        (list_left i out mid new place i_is first next is) count (omega (arith, counts))

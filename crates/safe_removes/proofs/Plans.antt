@@ -5,6 +5,8 @@ use mathlib.Core.Logic.{inl}
 use mathlib.Core.List.{List, [], ◌∷◌, ◌++◌}
 use native.Mathlib.Omega.{arith}
 use lib.ListN.{length, get_or}
+use Rattle.std.specs.Prelude.{Result}
+use Rattle.disk.specs.declared.Refusal.{Refusal}
 use Rattle.disk.specs.Root.{slot_of}
 use Rattle.rules.specs.Anodes.{Anodes, limit, anodes_of}
 use Rattle.rules.specs.Chains.{chain_of}
@@ -22,7 +24,6 @@ use Rattle.safe_laws.specs.SafeRemoved.{zeroed, zeroed-good, home_block, home-on
 use Rattle.safe_laws.specs.RemovedImage.{left-chain}
 use Rattle.anodes.specs.Loaded.{anodes_from, slots_from, table_from, Loaded}
 use Rattle.change_tables.specs.Chains.{disk_state}
-use Rattle.placing.specs.declared.Moves.{Moves}
 use Rattle.placing.specs.Steps.{EndsIn}
 use Rattle.placing.specs.States.{GoodState}
 use Rattle.giving.specs.Steps.{LinkedFrom}
@@ -112,7 +113,7 @@ module _ {img : List ℕ} {k : ℕ} {e : Entered} (m : EntryIn img k e) where
       }
 
   -- ITS STEPS ARE THOSE OF THE REMOVAL
-  plan_ends : (moves : Moves) (t : Slotted) (olds : List ℕ) → olds ≡ old_blocks img (remove_change img (table_of img) e) → EndsIn moves t (relocated (e.start / 512) (chain_zeroed (table_of img) e.anode) and_then rest_from (last_reserved img) olds) → EndsIn moves t (safe_steps img (remove_change img (table_of img) e))
+  plan_ends : (moves : Result (Unit {0}) Refusal) (t : Slotted) (olds : List ℕ) → olds ≡ old_blocks img (remove_change img (table_of img) e) → EndsIn moves t (relocated (e.start / 512) (chain_zeroed (table_of img) e.anode) and_then rest_from (last_reserved img) olds) → EndsIn moves t (safe_steps img (remove_change img (table_of img) e))
   unfolding remove_change
   plan_ends moves t olds same ends = moved-end img c moves t (planned q []) y refl refl (ends_twice (planned q []) (relocated y) (rest_from (last_reserved img) (old_blocks img c)) q [] refl moves t
       (subst (λ (l : List ℕ). EndsIn moves t (relocated y q and_then rest_from (last_reserved img) l)) same ends))
@@ -122,7 +123,7 @@ module _ {img : List ℕ} {k : ℕ} {e : Entered} (m : EntryIn img k e) where
     pub remove_ready : (a : ℕ) → owner_of (anodes_of img) (e.start / 512) ≡ a → LinkedFrom (anodes_from counts firsts nexts) e.anode × MoveReady last (old_from blocks e.anode b size 0) b a (chain_zeroed (table_from counts firsts nexts slots) e.anode)
     remove_ready a is = rw (b_is, last_is, size_is, l.is_loaded, held) (linked_from, move_ready a is (old_from blocks e.anode y (disk_size img) 0) (olds_are blocks shown))
 
-    pub remove_ends : (moves : Moves) (t : Slotted) → EndsIn moves t (relocated b (chain_zeroed (table_from counts firsts nexts slots) e.anode) and_then rest_from last (old_from blocks e.anode b size 0)) → EndsIn moves t (safe_steps img (remove_change img (table_of img) e))
+    pub remove_ends : (moves : Result (Unit {0}) Refusal) (t : Slotted) → EndsIn moves t (relocated b (chain_zeroed (table_from counts firsts nexts slots) e.anode) and_then rest_from last (old_from blocks e.anode b size 0)) → EndsIn moves t (safe_steps img (remove_change img (table_of img) e))
     remove_ends moves t ends = plan_ends moves t (old_from blocks e.anode y (disk_size img) 0) (olds_are blocks shown) (rw (b_is, last_is, size_is, l.is_loaded, held) at ends)
 
   -- ---- its new blocks

@@ -24,10 +24,9 @@ use giving::copied;
 use giving_back::Old;
 use header::disk_size;
 use lookup::EntryAt;
-use placing::Moves;
 use safe_plans::{anode_with, plan_remove};
 use safe_steps::used_slots;
-use safe_stores::{Listed, not_listed, put_end, store_table};
+use safe_stores::{put_end, store_table};
 use searches::{last_reserved, slots_of};
 use tables::entry;
 use walk_steps::chain_sum;
@@ -51,7 +50,7 @@ fn plan_removal(
     counts: &mut [u16],
     firsts: &mut [u16],
     nexts: &mut [u16],
-) -> Moves
+) -> Result<(), Refusal>
     requires loaded { Loaded image.now counts.old firsts.old nexts.old × ShowsBlocks image.now blocks.now }
     requires slots_len { (length slots.old ≡ 42) × (slots_from slots.old ≡ slot_of image.now) }
     requires reached_entry { ReachedEntry image.now (entered image.now e) × (owner_of (anodes_of image.now) (e.start / 512) ≡ owner.0) }
@@ -110,7 +109,7 @@ fn finish_removal(
     place: BlockNo,
     e: EntryAt,
     out: &mut [u8],
-) -> Listed
+) -> Result<u32, Refusal>
     requires loaded { Loaded image.old counts.now firsts.now nexts.now × ReachedEntry image.old (entered image.old e) }
     requires e_bound { new_blocks image.old (remove_change image.old (table_of image.old) (entered image.old e)) ≤ free_blocks (anodes_of image.old) }
     requires e_value { safe_steps image.old (remove_change image.old (table_of image.old) (entered image.old e)) ≡ planned (table_from new_counts.now new_firsts.now new_nexts.now slots.now) (place.0 ∷ slot_blocks (slots_from slots.now) 42) }
@@ -118,20 +117,14 @@ fn finish_removal(
 {
     let count = used_slots(slots) + 2;
     if (out.len() as u64) < count * 514 {
-        return Listed {
-            number: 32,
-            count: 0,
-        };
+        return Err(Refusal::ShortWriteList);
     }
     store_removal(
         image, counts, firsts, nexts, new_counts, new_firsts, new_nexts, slots, place, e,
     );
     let at = put_write(image, place, out, 0);
     put_end(image, slots, out, at);
-    Listed {
-        number: 0,
-        count: count as u32,
-    }
+    Ok(count as u32)
 }
 
 // Removes an entry of the directory that `home` heads, and lists the writes in `out`; 27, 28 and 32 leave everything as it was. `blocks`: the image's block table.
@@ -144,7 +137,7 @@ pub fn safe_remove_entry(
     home: AnodeNo,
     e: EntryAt,
     out: &mut [u8],
-) -> Listed
+) -> Result<u32, Refusal>
     requires loaded { Loaded image.old counts.now firsts.now nexts.now × ShowsBlocks image.old blocks.now }
     requires home_value { (no_directory image.old (anodes_of image.old) home.0 ≡ false) × Member (entered image.old e) (entries_of image.old (anodes_of image.old) home.0) }
     ensures { SafeLeaves image.old out.old (remove_change image.old (table_of image.old) (entered image.old e)) result image.new out.new }
@@ -152,13 +145,13 @@ pub fn safe_remove_entry(
     let mut slots = slots_of(image);
     let need = used_slots(&slots) + 1;
     if (chain_sum(counts, nexts, AnodeNo(1)) as u64) < need {
-        return not_listed(Refusal::NoFreeBlock);
+        return Err(Refusal::NoFreeBlock);
     }
     let owner = anode_with(firsts, nexts, home, entry_block(e));
     let mut new_counts = copied(counts);
     let mut new_firsts = copied(firsts);
     let mut new_nexts = copied(nexts);
-    let moves = plan_removal(
+    plan_removal(
         image,
         blocks,
         owner,
@@ -167,10 +160,7 @@ pub fn safe_remove_entry(
         &mut new_counts,
         &mut new_firsts,
         &mut new_nexts,
-    );
-    if let Moves::Stopped(why) = moves {
-        return not_listed(why);
-    }
+    )?;
     let place = BlockNo(entry(&new_firsts, owner.0 as usize));
     finish_removal(
         image,

@@ -8,6 +8,8 @@ use native.Mathlib.Nat.{le_of_eq}
 use lib.ListN.{length, take, drop, length-drop, length-append, take-append-drop}
 use lib.Seq.{take_all, take_at, drop_at, length-take-le}
 use borrow.Author.Tests.{ne_eqb}
+use Rattle.std.specs.Prelude.{Ok, Err}
+use Rattle.disk.specs.declared.Refusal.TheVariants.{ShortWriteList}
 use Rattle.endian.specs.Bytes.{put32}
 use Rattle.endian.proofs.Laws.{length-put32}
 use Rattle.disk.specs.Blocks.{block_of, with_block}
@@ -38,7 +40,6 @@ use Rattle.anodes.specs.Loaded.{anodes_from, Loaded}
 use Rattle.write_lists.specs.Puts.{with_writes}
 use Rattle.safe_plans.proofs.Counts.{extents_small}
 use Rattle.safe_stores.specs.Stored.{TableMoves}
-use Rattle.safe_stores.specs.declared.Listed.{Listed}
 use Rattle.safe_stores.specs.Leaves.{SafeLeaves}
 use Rattle.safe_stores.proofs.Leaves.{leaves_short, leaves_done}
 use Rattle.safe_stores.proofs.Placed.{root_inside, list_inside, slot_inside, table_moves, table-length, entry_old, entry_stays}
@@ -218,12 +219,12 @@ module _ {img : List ℕ} {k : ℕ} {e : Entered} (m : EntryIn img k e) (size : 
 
   module _ (out : List ℕ) (enough : new_blocks img (resize_change img (table_of img) e size) ≤ free_blocks (anodes_of img)) where
     -- 32
-    pub short_leaves : length out < (blocks_for size + length (slot_blocks t.slots 42) + 2) * 514 → (r : Listed) → r.number ≡ 32 → r.count ≡ 0 → SafeLeaves img out (resize_change img (table_of img) e size) r img out
+    pub short_leaves : length out < (blocks_for size + length (slot_blocks t.slots 42) + 2) * 514 → SafeLeaves img out (resize_change img (table_of img) e size) (Err ShortWriteList) img out
     short_leaves p = leaves_short img out c enough t ys plan (omega (arith, p, list_long))
 
     -- DONE
     pub done_leaves : (blocks_for size + length (slot_blocks t.slots 42) + 2) * 514 ≤ length out → (staged : List ℕ) (n : ℕ) → length staged ≡ length out → drop n staged ≡ drop n out → n ≤ blocks_for size * 512 → (i new : List ℕ) → i ≡ new_image img (resize_change img (table_of img) e size) t (new_order t e.anode z) →
-        new ≡ with_writes staged 0 i (new_order t e.anode z ++ (2 ∷ [])) → (r : Listed) → r.number ≡ 0 → r.count ≡ blocks_for size + length (slot_blocks t.slots 42) + 2 → SafeLeaves img out (resize_change img (table_of img) e size) r i new
-    done_leaves fits staged n whole behind low i new i_is is r number count =
+        new ≡ with_writes staged 0 i (new_order t e.anode z ++ (2 ∷ [])) → (count : ℕ) → count ≡ blocks_for size + length (slot_blocks t.slots 42) + 2 → SafeLeaves img out (resize_change img (table_of img) e size) (Ok count) i new
+    done_leaves fits staged n whole behind low i new i_is is count counts =
         leaves_done img out c enough t ys plan (omega (arith, fits, list_long)) (writes_leave image (resize_own m size) t ys plan) (list_inside image (resize_own m size) t ys plan) staged n whole behind (omega (arith, low, list_long)) i new i_is
-        (is ∙ ap (λ (x : List ℕ). with_writes staged 0 x (ys ++ (2 ∷ []))) i_is) r number (omega (arith, count, list_long))
+        (is ∙ ap (λ (x : List ℕ). with_writes staged 0 x (ys ++ (2 ∷ []))) i_is) count (omega (arith, counts, list_long))

@@ -8,6 +8,8 @@ use native.Mathlib.Omega.{arith}
 use lib.ListN.{length, take}
 use lib.Seq.{take_at}
 use borrow.Author.Tests.{ne_eqb}
+use Rattle.std.specs.Prelude.{Result}
+use Rattle.disk.specs.declared.Refusal.{Refusal}
 use Rattle.disk.specs.Root.{slot_of}
 use Rattle.rules.specs.Anodes.{limit, anodes_of}
 use Rattle.rules.specs.Chains.{chain_of, system_owns, blocks_of}
@@ -29,7 +31,6 @@ use Rattle.safe_laws.specs.AnewLeft.{file-anew}
 use Rattle.safe_laws.specs.SafeResized.{resize_leaves, d, new_place, resized-file, resized-taken, resized-home}
 use Rattle.anodes.specs.Loaded.{slots_from, table_from, Loaded}
 use Rattle.change_tables.specs.Chains.{disk_state, good_state}
-use Rattle.placing.specs.declared.Moves.{Moves}
 use Rattle.placing.specs.Steps.{EndsIn}
 use Rattle.placing.specs.States.{GoodState, Ready}
 use Rattle.giving_back.specs.OldTable.{old_from}
@@ -113,7 +114,7 @@ module _ {img : List ℕ} {k : ℕ} {e : Entered} (m : EntryIn img k e) (size : 
   resize_may a is olds same = record { from_6 = facts.from_6; ready = ready; moves = λ q us taken. move_then q us taken a is olds same }
 
   -- ITS STEPS ARE THOSE OF THE RESIZE
-  plan_ends : (moves : Moves) (t : Slotted) (olds : List ℕ) → olds ≡ old_blocks img (resize_change img (table_of img) e size) → EndsIn moves t (taken_anew e.anode (blocks_for size) (table_of img) and_then relocated (e.start / 512) and_then rest_from (last_reserved img) olds) → EndsIn moves t (safe_steps img (resize_change img (table_of img) e size))
+  plan_ends : (moves : Result (Unit {0}) Refusal) (t : Slotted) (olds : List ℕ) → olds ≡ old_blocks img (resize_change img (table_of img) e size) → EndsIn moves t (taken_anew e.anode (blocks_for size) (table_of img) and_then relocated (e.start / 512) and_then rest_from (last_reserved img) olds) → EndsIn moves t (safe_steps img (resize_change img (table_of img) e size))
   unfolding resize_change
   plan_ends moves t olds same ends = moved-end img c moves t (taken_anew e.anode (blocks_for size) (table_of img)) y refl changes
       (subst (λ (l : List ℕ). EndsIn moves t (taken_anew e.anode (blocks_for size) (table_of img) and_then relocated y and_then rest_from (last_reserved img) l)) same ends)
@@ -125,7 +126,7 @@ module _ {img : List ℕ} {k : ℕ} {e : Entered} (m : EntryIn img k e) (size : 
     resize_ready a is = rw (b_is, last_is, disk_is, want_is, l.is_loaded, slots_are) (resize_may a is (old_from blocks e.anode y (disk_size img) 0) (olds_are blocks shown))
 
     -- what it ends in
-    pub resize_ends : (moves : Moves) (t : Slotted) → EndsIn moves t (taken_anew e.anode want (table_from counts firsts nexts slots) and_then relocated b and_then rest_from last (old_from blocks e.anode b disk 0)) → EndsIn moves t (safe_steps img (resize_change img (table_of img) e size))
+    pub resize_ends : (moves : Result (Unit {0}) Refusal) (t : Slotted) → EndsIn moves t (taken_anew e.anode want (table_from counts firsts nexts slots) and_then relocated b and_then rest_from last (old_from blocks e.anode b disk 0)) → EndsIn moves t (safe_steps img (resize_change img (table_of img) e size))
     resize_ends moves t ends = plan_ends moves t (old_from blocks e.anode y (disk_size img) 0) (olds_are blocks shown) (rw (b_is, last_is, disk_is, want_is, l.is_loaded, slots_are) at ends)
 
   -- ---- how many new blocks

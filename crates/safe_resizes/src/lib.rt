@@ -32,11 +32,10 @@ use giving::copied;
 use giving_back::Old;
 use header::disk_size;
 use lookup::EntryAt;
-use placing::Moves;
 use safe_plans::{anode_with, plan_resize};
 use safe_removes::entry_block;
 use safe_steps::used_slots;
-use safe_stores::{Listed, not_listed, put_end, store_file, store_table};
+use safe_stores::{put_end, store_file, store_table};
 use searches::{last_reserved, slots_of};
 use tables::entry;
 use walk_steps::{blocks_for, chain_sum};
@@ -53,7 +52,7 @@ fn plan_resized(
     counts: &mut [u16],
     firsts: &mut [u16],
     nexts: &mut [u16],
-) -> Moves
+) -> Result<(), Refusal>
     requires loaded { Loaded image.now counts.old firsts.old nexts.old × ShowsBlocks image.now blocks.now }
     requires slots_len { (length slots.old ≡ 42) × (slots_from slots.old ≡ slot_of image.now) × (e.size ≢ size) }
     requires reached_entry { ReachedEntry image.now (entered image.now e) × (owner_of (anodes_of image.now) (e.start / 512) ≡ owner.0) }
@@ -171,7 +170,7 @@ fn finish_resize(
     e: EntryAt,
     size: u32,
     out: &mut [u8],
-) -> Listed
+) -> Result<u32, Refusal>
     requires loaded { Loaded image.old counts.now firsts.now nexts.now × ReachedEntry image.old (entered image.old e) × (is_dir e.kind ≡ false) × (e.size ≢ size) }
     requires size_bound { new_blocks image.old (resize_change image.old (table_of image.old) (entered image.old e) size) ≤ free_blocks (anodes_of image.old) }
     requires resize_plan { ResizePlan image.old (entered image.old e) size (table_from new_counts.now new_firsts.now new_nexts.now slots.now) place.0 }
@@ -180,10 +179,7 @@ fn finish_resize(
     let want = blocks_for(size as u64);
     let count = want + used_slots(slots) + 2;
     if (out.len() as u64) < count * 514 {
-        return Listed {
-            number: 32,
-            count: 0,
-        };
+        return Err(Refusal::ShortWriteList);
     }
     let len = (want as usize) * 512;
     stage_resized(image, counts, firsts, nexts, e, size, &mut out[0..len]);
@@ -204,10 +200,7 @@ fn finish_resize(
     list_resized(
         image, new_counts, new_firsts, new_nexts, slots, e.anode, place, out,
     );
-    Listed {
-        number: 0,
-        count: count as u32,
-    }
+    Ok(count as u32)
 }
 
 // Gives a file of the directory that `home` heads another size, and lists the writes in `out`; 27, 28 and 32 leave everything as it was. `blocks`: the image's block table.
@@ -221,7 +214,7 @@ pub fn safe_resize_entry(
     e: EntryAt,
     size: u64,
     out: &mut [u8],
-) -> Listed
+) -> Result<u32, Refusal>
     requires loaded { Loaded image.old counts.now firsts.now nexts.now × ShowsBlocks image.old blocks.now }
     requires home_value { (no_directory image.old (anodes_of image.old) home.0 ≡ false) × Member (entered image.old e) (entries_of image.old (anodes_of image.old) home.0) }
     requires kind_value { (is_dir e.kind ≡ false) × (e.size ≢ size) }
@@ -230,13 +223,13 @@ pub fn safe_resize_entry(
     let mut slots = slots_of(image);
     let need = blocks_for(size) + used_slots(&slots) + 1;
     if (chain_sum(counts, nexts, AnodeNo(1)) as u64) < need {
-        return not_listed(Refusal::NoFreeBlock);
+        return Err(Refusal::NoFreeBlock);
     }
     let owner = anode_with(firsts, nexts, home, entry_block(e));
     let mut new_counts = copied(counts);
     let mut new_firsts = copied(firsts);
     let mut new_nexts = copied(nexts);
-    let moves = plan_resized(
+    plan_resized(
         image,
         blocks,
         owner,
@@ -246,10 +239,7 @@ pub fn safe_resize_entry(
         &mut new_counts,
         &mut new_firsts,
         &mut new_nexts,
-    );
-    if let Moves::Stopped(why) = moves {
-        return not_listed(why);
-    }
+    )?;
     let place = BlockNo(entry(&new_firsts, owner.0 as usize));
     finish_resize(
         image,

@@ -6,6 +6,7 @@ use mathlib.Core.List.{List, [], ◌∷◌, ◌++◌}
 use native.Mathlib.Omega.{arith}
 use lib.Dec.{eqb}
 use lib.ListN.{length, length-append}
+use Rattle.std.specs.Prelude.{Result, Ok, Err}
 use Rattle.disk.specs.declared.Refusal.{Refusal}
 use Rattle.rules.specs.Anodes.{Anodes, limit}
 use Rattle.rules.specs.Plans.{Slotted, slotted, Plan, planned, after, ◌and_then◌, no_growth}
@@ -13,8 +14,6 @@ use Rattle.rules.specs.Space.{rewritten, dropped, take_many}
 use Rattle.laws.specs.Plans.{then_stop}
 use Rattle.safe_rules.specs.SafePlans.{slot_blocks, taken_anew}
 use Rattle.safe_laws.specs.Anew.{emptied, emptied_head, system_is}
-use Rattle.placing.specs.declared.Moves.{Moves}
-use Rattle.placing.specs.declared.Moves.TheVariants.{Done, Stopped}
 use Rattle.placing.specs.States.{Ready}
 use Rattle.placing.specs.Steps.{EndsIn}
 
@@ -64,7 +63,7 @@ emptied_ready last s h h6 (g, (d, h1)) t e =
     )
 
 -- the takes are then those of the plan
-pub ends_anew : (s : Slotted) (h k : ℕ) (r t : Anodes) → r ≡ dropped limit s.anodes h → t ≡ rewritten r h 0 65535 → (moves : Moves) (u : Slotted) → EndsIn moves u (take_many limit no_growth false k h (slotted t s.slots)) → EndsIn moves u (taken_anew h k s)
+pub ends_anew : (s : Slotted) (h k : ℕ) (r t : Anodes) → r ≡ dropped limit s.anodes h → t ≡ rewritten r h 0 65535 → (moves : Result (Unit {0}) Refusal) (u : Slotted) → EndsIn moves u (take_many limit no_growth false k h (slotted t s.slots)) → EndsIn moves u (taken_anew h k s)
 unfolding taken_anew
 ends_anew s h k r t e i moves u w = let q : t ≡ rewritten (dropped limit s.anodes h) h 0 65535 = i ∙ ap (λ (x : Anodes). rewritten x h 0 65535) e in
     subst (λ (x : Anodes). EndsIn moves u (take_many limit no_growth false k h (slotted x s.slots))) q w
@@ -73,15 +72,11 @@ ends_anew s h k r t e i moves u w = let q : t ≡ rewritten (dropped limit s.ano
 
 module _ (p : Plan Slotted) (f : Slotted → Plan Slotted) where
   -- the first is refused
-  pub ends_stopped : (moves : Moves) (s t : Slotted) (why : Refusal) → moves ≡ Stopped why → EndsIn moves s p → EndsIn moves t (p and_then f)
-  ends_stopped moves s t why e ends = let q : EndsIn (Stopped why) s p = rw e at ends in rw e (then_stop p f _ q)
+  pub ends_stopped : (s t : Slotted) (why : Refusal) → EndsIn (Err why) s p → EndsIn (Err why) t (p and_then f)
+  ends_stopped s t why q = then_stop p f _ q
 
   -- it is done, and the second is made on what it leaves
-  pub ends_then : (s : Slotted) (us : List ℕ) → p ≡ planned s us → (moves : Moves) (t : Slotted) → EndsIn moves t (f s) → EndsIn moves t (p and_then f)
+  pub ends_then : (s : Slotted) (us : List ℕ) → p ≡ planned s us → (moves : Result (Unit {0}) Refusal) (t : Slotted) → EndsIn moves t (f s) → EndsIn moves t (p and_then f)
   unfolding ◌and_then◌ after
-  ends_then s us e Done t (ys, q) = (us ++ ys, ap (λ (i : Plan Slotted). i and_then f) e ∙ ap (after us) q)
-  ends_then s us e (Stopped why) t q = ap (λ (i : Plan Slotted). i and_then f) e ∙ ap (after us) q
-
--- a run of steps that is done
-pub ends_done : (moves : Moves) (t : Slotted) (p : Plan Slotted) → moves ≡ Done → EndsIn moves t p → (ys : List ℕ) × (p ≡ planned t ys)
-ends_done moves t p e ends = let q : EndsIn Done t p = rw e at ends in q
+  ends_then s us e (Ok d) t (ys, q) = (us ++ ys, ap (λ (i : Plan Slotted). i and_then f) e ∙ ap (after us) q)
+  ends_then s us e (Err why) t q = ap (λ (i : Plan Slotted). i and_then f) e ∙ ap (after us) q

@@ -10,10 +10,10 @@ ghost use Rattle.placing.specs.States.{Ready};
 ghost use Rattle.giving_back.specs.OldTable.{old_from};
 ghost use Rattle.safe_steps.specs.Ready.{SettleReady};
 
-use disk::{AnodeNo, BlockNo};
+use disk::{AnodeNo, BlockNo, Refusal};
 use giving::drop_chain;
 use giving_back::{Old, give_old};
-use placing::{Moves, rewrite};
+use placing::rewrite;
 use relocating::reslot_all;
 use tables::entry;
 use taking::take_many;
@@ -22,17 +22,14 @@ use taking::take_many;
 fn slot_count(y: u16) -> u64
     ensures { result ≡ cond (eqb y 0) 0 1 }
 {
-    if y == 0 {
-        return 0;
-    }
-    1
+    u64::from(y != 0)
 }
 
 // How many slots are in use.
 pub fn used_slots(slots: &[u16]) -> u64
     ensures { (result ≡ length (slot_blocks (slots_from slots.now) 42)) × (result ≤ 42) }
 {
-    let mut used: u64 = 0;
+    let mut used = 0;
     for k in 0..42 {
         used += slot_count(entry(slots, k));
     }
@@ -47,7 +44,7 @@ pub fn take_anew(
     counts: &mut [u16],
     firsts: &mut [u16],
     nexts: &mut [u16],
-) -> Moves
+) -> Result<(), Refusal>
     requires anode_tables { AnodeTables counts.old firsts.old nexts.old × (length slots.old ≡ 42) × (6 ≤ head.0) }
     requires by_index { (last : ℕ) × Ready last (table_from counts.old firsts.old nexts.old slots.old) head.0 }
     ensures { EndsIn result (table_from counts.new firsts.new nexts.new slots.new) (taken_anew head.0 k (table_from counts.old firsts.old nexts.old slots.old)) }
@@ -67,14 +64,11 @@ pub fn settle(
     counts: &mut [u16],
     firsts: &mut [u16],
     nexts: &mut [u16],
-) -> Moves
+) -> Result<(), Refusal>
     requires anode_tables { AnodeTables counts.old firsts.old nexts.old × (length slots.old ≡ 42) }
     requires settle_ready { SettleReady last.0 (old_from blocks.now old.head.0 old.moved.0 size 0) (table_from counts.old firsts.old nexts.old slots.old) }
     ensures { EndsIn result (table_from counts.new firsts.new nexts.new slots.new) (reslotted_from 42 0 (table_from counts.old firsts.old nexts.old slots.old) and_then given_back last.0 (old_from blocks.now old.head.0 old.moved.0 size 0)) }
 {
-    let moves = reslot_all(slots, counts, firsts, nexts);
-    let Moves::Done = moves else {
-        return moves;
-    };
+    reslot_all(slots, counts, firsts, nexts)?;
     give_old(slots, last, size, blocks, old, counts, firsts, nexts)
 }

@@ -2,7 +2,6 @@
 #![tactic(auto)]
 
 ghost use Rattle.std.specs.Prelude.{◌∷◌, [], ◌++◌, ◌≡◌, ℕ, ◌+◌, ◌*◌, ◌≤◌, length, get_or};
-ghost use Rattle.disk.specs.Refusals.{number_of};
 ghost use Rattle.rules.specs.Chains.{blocks_of};
 ghost use Rattle.rules.specs.Table.{with_table};
 ghost use Rattle.rules.specs.Changes.{spread};
@@ -14,26 +13,9 @@ ghost use Rattle.safe_stores.specs.Stored.{TableMoves};
 
 use block_copies::move_slots;
 use contents::write_along;
-use disk::{AnodeNo, BlockNo, Refusal, number};
+use disk::{AnodeNo, BlockNo};
 use edits::store_anodes;
 use write_lists::{put_slots, put_write};
-
-// What a safe change answers: its number, and how many writes stand in the buffer.
-#[derive(Clone, Copy)]
-pub struct Listed {
-    pub number: u32,
-    pub count: u32,
-}
-
-// The answer of a refused change.
-pub fn not_listed(why: Refusal) -> Listed
-    ensures { (result.number ≡ number_of why) × (result.count ≡ 0) }
-{
-    Listed {
-        number: number(why),
-        count: 0,
-    }
-}
 
 // Stores the anode table of the new tables in its new blocks.
 pub fn store_table(

@@ -5,6 +5,6 @@ use std::io;
 
 fn main(rt: HostRuntime) -> io::Result<()> {
     let mut image = [0u8; 4096];
-    format::format(&mut image, 5, 1, b"bench", 0, 0, 0, 0);
+    let _ = format::format(&mut image, 5, 1, b"bench", 0, 0, 0, 0);
     rt.write_all(&image)
 }

@@ -3,20 +3,21 @@ use Prim.Native.Nat.{ℕ, zero, suc, ◌+◌, ◌*◌, ◌-◌, ◌≤◌, ◌<�
 use mathlib.Core.Path.{◌≡◌, refl, sym, ap, subst, ◌∙◌}
 use mathlib.Core.Logic.{◌≢◌, ◌⊎◌, inl, inr}
 use mathlib.Core.Bool.{Bool, true, false, cond, not}
-use mathlib.Core.List.{List}
+use Rattle.std.specs.Prelude.{Option, Some, None, is_some}
+use mathlib.Core.List.{List, ◌∷◌}
 use native.Mathlib.Omega.{arith}
 use lib.ListN.{get_or}
 use borrow.Author.Tests.{eq-eqb, ne_eqb}
-use Rattle.rules.specs.Counting.{last_of}
 use Rattle.rules.specs.Anodes.{Anodes, exists_by}
 use Rattle.rules.specs.Chains.{chain_of, cut, side}
-use Rattle.rules.specs.Space.{nowhere, found, first_found, first_extent, free_extent, lowest_free}
+use Rattle.rules.specs.Space.{found, first_found, first_extent, free_extent, lowest_free}
 use Rattle.rules.specs.Searched.{Searched, searched_to, searched, after_read, slot_start, slot_end, through_used, through_slots, searched_by_slots}
-use Rattle.laws.specs.Chains.{chain-none, chain-end, chain_step}
 use Rattle.laws.specs.Tests.{same?}
 use Rattle.laws.specs.SlotSearch.{start_in, empty_passed, used_looked, slot_search}
 use Rattle.laws.specs.Searches.{full_at, nowhere_at}
 use Rattle.anodes.specs.Loaded.{anodes_from}
+use Rattle.searches.specs.declared.Extent.{Extent}
+use Rattle.searches.specs.Found.{found_of}
 
 -- ---- the search for a free anode
 
@@ -182,50 +183,30 @@ anode_found_lem A ex s a m e = ap (λ (r : Searched). r.anode) e
 
 -- ---- the first anode with a block
 
-module _ (count next : ℕ → ℕ) where
-  pub first-none : (k p a : ℕ) → k ≡ 0 → first_extent count p (chain_of next k a) ≡ nowhere
-  unfolding first_extent
-  first-none k p a e = rw (chain-none next k a e)
+module _ (count : ℕ → ℕ) (p a : ℕ) (l : List ℕ) where
+  pub first_hit : count a ≢ 0 → first_extent count p (a ∷ l) ≡ found p a
+  unfolding first_extent first_found
+  first_hit h = rw (full_at count p a (count a) refl h)
 
-  pub first-end : (k p a : ℕ) → a ≡ 0 → first_extent count p (chain_of next k a) ≡ nowhere
-  unfolding first_extent
-  first-end k p a e = rw (chain-end next k a e)
-
-  module _ (k m p a : ℕ) (fuel : k ≡ m + 1) (some : a ≢ 0) where
-    pub first_hit : count a ≢ 0 → first_extent count p (chain_of next k a) ≡ found p a
-    unfolding first_extent first_found
-    first_hit h = rw (chain_step next k m a fuel some, full_at count p a (count a) refl h)
-
-    pub first_step : count a ≡ 0 → first_extent count p (chain_of next k a) ≡ first_extent count a (chain_of next m (next a))
-    unfolding first_extent first_found
-    first_step h = rw (chain_step next k m a fuel some, nowhere_at count p a h)
-
--- ---- the last anode
-
-module _ (next : ℕ → ℕ) where
-  pub end_none : (k z a : ℕ) → k ≡ 0 → last_of z (chain_of next k a) ≡ z
-  unfolding last_of
-  end_none k z a e = rw (chain-none next k a e)
-
-  pub end-at-zero : (k z a : ℕ) → a ≡ 0 → last_of z (chain_of next k a) ≡ z
-  unfolding last_of
-  end-at-zero k z a e = rw (chain-end next k a e)
-
-  pub end_step : (k m z a : ℕ) → k ≡ m + 1 → a ≢ 0 → last_of z (chain_of next k a) ≡ last_of a (chain_of next m (next a))
-  unfolding last_of
-  end_step k m z a e h = rw (chain_step next k m a e h)
+  pub first_step : count a ≡ 0 → first_extent count p (a ∷ l) ≡ first_extent count a l
+  unfolding first_extent first_found
+  first_step h = rw (nowhere_at count p a h)
 
 -- ---- the extent that a block is taken from
 
 module _ (dir : Bool) (c f n : List ℕ) (m : ℕ) (near : m ≡ cond dir 2 1) where
-  pub near-found : (p x : ℕ) → first_extent (λ a. get_or c a 0) 0 (chain_of (cut (λ a. get_or n a 0)) 3444 m) ≡ found p x → free_extent 3444 dir (anodes_from c f n) ≡ found p x
+  -- the near side has one
+  pub near-found : (o : Option Extent) → is_some o ≡ true → found_of o ≡ first_extent (λ a. get_or c a 0) 0 (chain_of (cut (λ a. get_or n a 0)) 3444 m) → found_of o ≡ free_extent 3444 dir (anodes_from c f n)
   unfolding free_extent first_found side anodes_from
-  near-found p x e = rw (← near, e)
+  near-found None t e = cc
+  near-found (Some x) t e = rw (← near, ← e)
 
-  pub near_empty : (k : ℕ) → k ≡ cond (not dir) 2 1 → first_extent (λ a. get_or c a 0) 0 (chain_of (cut (λ a. get_or n a 0)) 3444 m) ≡ nowhere →
-      free_extent 3444 dir (anodes_from c f n) ≡ first_extent (λ a. get_or c a 0) 0 (chain_of (cut (λ a. get_or n a 0)) 3444 k)
+  -- it has none: the other side
+  pub near_empty : (o : Option Extent) → is_some o ≡ false → (k : ℕ) → k ≡ cond (not dir) 2 1 → found_of o ≡ first_extent (λ a. get_or c a 0) 0 (chain_of (cut (λ a. get_or n a 0)) 3444 m) →
+      first_extent (λ a. get_or c a 0) 0 (chain_of (cut (λ a. get_or n a 0)) 3444 k) ≡ free_extent 3444 dir (anodes_from c f n)
   unfolding free_extent first_found side anodes_from
-  near_empty k far e = rw (← near, e, far, other dir)
+  near_empty (Some x) t k far e = cc
+  near_empty None t k far e = rw (← near, ← e, far, other dir)
     where
       other : (dir : Bool) → cond {A = ℕ} (not dir) 2 1 ≡ cond dir 1 2
       other true = refl

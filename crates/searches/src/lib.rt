@@ -13,13 +13,14 @@ ghost use Rattle.anodes.specs.Loaded.{anodes_from, slots_from};
 ghost use Rattle.searches.specs.Found.{found_of, searched_of};
 
 use disk::{AnodeNo, BlockNo, block_part, root_in, slot_of};
+use links::Links;
 use tables::entry;
 
-// Where a search along a chain ends: the anode before the one that was found, and that one.
+// What a search along a chain has found: the anode before, and that one.
 #[derive(Clone, Copy)]
-pub enum Extent {
-    Nowhere,
-    At(AnodeNo, AnodeNo),
+pub struct Extent {
+    pub before: AnodeNo,
+    pub anode: AnodeNo,
 }
 
 // Where the search for a free anode stops, and how many anodes it has read.
@@ -34,8 +35,8 @@ pub fn slots_of(image: &[u8]) -> [u16; 42]
     ensures { slots_from result ≡ slot_of image.now }
 {
     let mut slots = [0u16; 42];
-    for k in 0..42 {
-        slots[k] = slot_of(image, k).0;
+    for (k, slot) in slots.iter_mut().enumerate() {
+        *slot = slot_of(image, k).0;
     }
     slots
 }
@@ -116,24 +117,17 @@ pub fn next_before_two(nexts: &[u16], a: AnodeNo) -> AnodeNo
 }
 
 // The first anode with a block on the side of the free list that starts at `from`.
-fn first_extent(counts: &[u16], nexts: &[u16], from: AnodeNo) -> Extent
+fn first_extent(counts: &[u16], nexts: &[u16], from: AnodeNo) -> Option<Extent>
     ensures { found_of result ≡ first_extent (λ a. get_or counts.now a 0) 0 (chain_of (cut (λ a. get_or nexts.now a 0)) 3444 from.0) }
 {
     let mut before = AnodeNo(0);
-    let mut at = from;
-    let mut fuel: usize = 3444;
-    while 0 < fuel {
-        if at.0 == 0 {
-            return Extent::Nowhere;
+    for anode in Links::side(nexts, from) {
+        if entry(counts, anode.0 as usize) != 0 {
+            return Some(Extent { before, anode });
         }
-        if entry(counts, at.0 as usize) != 0 {
-            return Extent::At(before, at);
-        }
-        before = at;
-        at = next_before_two(nexts, at);
-        fuel -= 1;
+        before = anode;
     }
-    Extent::Nowhere
+    None
 }
 
 // The anode that starts the side of the free list where directories (`dir`) or data look first.
@@ -147,12 +141,12 @@ fn near_side(dir: bool) -> AnodeNo
 }
 
 // The extent that a block is taken from: the first on the near side of the free list, else on the other.
-pub fn free_extent(dir: bool, counts: &[u16], nexts: &[u16]) -> Extent
+pub fn free_extent(dir: bool, counts: &[u16], nexts: &[u16]) -> Option<Extent>
     ensures { (f : List ℕ) → found_of result ≡ free_extent 3444 dir (anodes_from counts.now f nexts.now) }
 {
-    let found = first_extent(counts, nexts, near_side(dir));
-    if let Extent::At(_, _) = found {
-        return found;
+    let near = first_extent(counts, nexts, near_side(dir));
+    if near.is_some() {
+        return near;
     }
     first_extent(counts, nexts, near_side(!dir))
 }
@@ -162,15 +156,8 @@ pub fn last_anode(nexts: &[u16], from: AnodeNo) -> AnodeNo
     ensures { result.0 ≡ last_of from.0 (chain_of (cut (λ a. get_or nexts.now a 0)) 3444 from.0) }
 {
     let mut last = from;
-    let mut at = from;
-    let mut fuel: usize = 3444;
-    while 0 < fuel {
-        if at.0 == 0 {
-            return last;
-        }
-        last = at;
-        at = next_before_two(nexts, at);
-        fuel -= 1;
+    for a in Links::side(nexts, from) {
+        last = a;
     }
     last
 }

@@ -2,11 +2,13 @@
 #![tactic(auto)]
 
 ghost use Rattle.std.specs.Prelude.{◌≡◌, ◌+◌, ◌<◌, ◌≤◌, ◌^◌};
+ghost use Rattle.disk.specs.Refusals.{answer_of};
 ghost use Rattle.endian.specs.Bytes.{stored};
 ghost use Rattle.rules.specs.Counting.{least};
 ghost use Rattle.settings.specs.Files.{old_form, new_form, number_at, number_bytes, record_place, record_count, key_at, seconds_at, wrong_record, not_of_form, settings_from, record_bytes, file_of};
 ghost use Rattle.settings.specs.Conversions.{conversion_of, too_long, convert_outcome, widen_outcome, narrow_outcome};
 
+use disk::Refusal;
 use endian::{read8, read16, write8};
 
 // How a record is stored: its mark, and how many bytes its seconds have.
@@ -50,7 +52,7 @@ fn number_at(bytes: &[u8], at: usize, width: usize) -> u32
 {
     let mut v: u32 = 0;
     for i in 0..width {
-        v = v * 256 + (read8(bytes, at + i) as u32);
+        v = v * 256 + read8(bytes, at + i) as u32;
     }
     v
 }
@@ -60,12 +62,10 @@ fn put_number(bytes: &mut [u8], at: usize, width: usize, v: u32)
     requires { (width ≤ 4) × (at ≤ 8192) }
     ensures { bytes.new ≡ stored bytes.old at (number_bytes width v) }
 {
-    let mut left = width;
     let mut rest = v;
-    while left > 0 {
-        left -= 1;
-        write8(bytes, at + left, (rest % 256) as u8);
-        rest = rest / 256;
+    for i in (0..width).rev() {
+        write8(bytes, at + i, (rest % 256) as u8);
+        rest /= 256;
     }
 }
 
@@ -74,11 +74,7 @@ fn past_width(width: usize) -> u64
     requires { width ≤ 4 }
     ensures { result ≡ 256 ^ width }
 {
-    let mut power: u64 = 1;
-    for i in 0..width {
-        power = power * 256;
-    }
-    power
+    256u64.pow(width as u32)
 }
 
 // Where record `i` begins.
@@ -186,39 +182,45 @@ fn put_records(from: Form, to: Form, file: &[u8], n: usize, out: &mut [u8])
 }
 
 // Converts a file from one form to another; 50, 51, 52.
-fn convert(from: Form, to: Form, file: &[u8], out: &mut [u8], fields: &mut [u32; 2]) -> u32
+fn convert(
+    from: Form,
+    to: Form,
+    file: &[u8],
+    out: &mut [u8],
+    fields: &mut [u32; 2],
+) -> Result<(), Refusal>
     requires { (from.width ≤ 4) × (to.width ≤ 4) }
-    ensures { conversion_of result out.new fields.new ≡ convert_outcome from to file.now out.old }
+    ensures { conversion_of (answer_of result) out.new fields.new ≡ convert_outcome from to file.now out.old }
 {
     *fields = [0u32; 2];
     if not_of_form(from, file) {
-        return 50;
+        return Err(Refusal::SettingsForm);
     }
     let n = record_count(from, file);
     let long = first_too_long(from, to, file, n);
     if long < n {
         fields[1] = key_at(from, file, long) as u32;
-        return 51;
+        return Err(Refusal::LongSeconds);
     }
     let len = record_place(to, n);
     if out.len() < len {
-        return 52;
+        return Err(Refusal::ShortOutput);
     }
     put_records(from, to, file, n, out);
     fields[0] = len as u32;
-    0
+    Ok(())
 }
 
 // Converts a file of old records to new ones; a refused call leaves the output buffer; 50, 52.
-pub fn widen(file: &[u8], out: &mut [u8], fields: &mut [u32; 2]) -> u32
-    ensures { conversion_of result out.new fields.new ≡ widen_outcome file.now out.old }
+pub fn widen(file: &[u8], out: &mut [u8], fields: &mut [u32; 2]) -> Result<(), Refusal>
+    ensures { conversion_of (answer_of result) out.new fields.new ≡ widen_outcome file.now out.old }
 {
     convert(old_form(), new_form(), file, out, fields)
 }
 
 // Converts a file of new records to old ones; a refused call leaves the output buffer; 50, 51, 52.
-pub fn narrow(file: &[u8], out: &mut [u8], fields: &mut [u32; 2]) -> u32
-    ensures { conversion_of result out.new fields.new ≡ narrow_outcome file.now out.old }
+pub fn narrow(file: &[u8], out: &mut [u8], fields: &mut [u32; 2]) -> Result<(), Refusal>
+    ensures { conversion_of (answer_of result) out.new fields.new ≡ narrow_outcome file.now out.old }
 {
     convert(new_form(), old_form(), file, out, fields)
 }

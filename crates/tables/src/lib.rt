@@ -8,20 +8,16 @@ ghost use Rattle.tables.specs.Held.{zeroed_first, ZeroFrom};
 pub fn entry(table: &[u16], i: usize) -> u16
     ensures { result ≡ get_or table.now i 0 }
 {
-    if table.len() <= i {
-        return 0;
-    }
-    table[i]
+    table.get(i).copied().unwrap_or(0)
 }
 
 // Stores a number at `i`.
 pub fn set_entry(table: &mut [u16], i: usize, v: u16)
     ensures { table.new ≡ set table.old i v }
 {
-    if table.len() <= i {
-        return;
+    if i < table.len() {
+        table[i] = v;
     }
-    table[i] = v;
 }
 
 // Zeroes the first `n` numbers.
@@ -29,11 +25,7 @@ pub fn zero_first(table: &mut [u16], n: usize)
     requires { n ≤ length table.old }
     ensures { table.new ≡ zeroed_first n table.old }
 {
-    let mut i = 0;
-    while i < n {
-        table[i] = 0;
-        i += 1;
-    }
+    table[..n].fill(0);
 }
 
 // Copies a table of the same length.
@@ -41,12 +33,7 @@ pub fn copy_entries(source: &[u16], table: &mut [u16])
     requires { length source.now ≡ length table.old }
     ensures { table.new ≡ source.now }
 {
-    let n = source.len();
-    let mut i = 0;
-    while i < n {
-        table[i] = source[i];
-        i += 1;
-    }
+    table.copy_from_slice(source);
 }
 
 // Whether the 82 numbers from `from` on, as many as an anode block holds, are all there and 0: no early way out, so that many are tested at once.
@@ -60,8 +47,8 @@ pub fn zeros_from(table: &[u16], from: usize) -> bool
         return false;
     }
     let mut any: u16 = 0;
-    for i in 0..82 {
-        any = any | table[from + i];
+    for x in &table[from..from + 82] {
+        any |= *x;
     }
     any == 0
 }

@@ -6,6 +6,7 @@ use mathlib.Core.Bool.{Bool}
 use mathlib.Core.List.{List}
 use mathlib.Core.Option.{Option, none, some}
 use native.Mathlib.Omega.{arith}
+use Rattle.std.specs.Prelude.{Result, Ok, Err}
 use Rattle.disk.specs.declared.BlockNo.{BlockNo}
 use Rattle.disk.specs.declared.Refusal.{Refusal}
 use Rattle.disk.specs.Refusals.{number_of}
@@ -33,8 +34,6 @@ use Rattle.laws.specs.Frame.{shift_chain}
 use Rattle.laws.specs.Take.{Takes, free_head, without_first-out, end_in, take_steps, takes_moved}
 use Rattle.laws.specs.Carried.{shrunk_extent, kept-extent, end_after, put-end}
 use Rattle.laws.specs.RefusedSteps.{put-28}
-use Rattle.placing.specs.declared.Step.{Step}
-use Rattle.placing.specs.declared.Step.TheVariants.{Moved, Refused}
 use Rattle.placing.specs.Steps.{step_plan, UnlessMoved}
 use Rattle.placing.specs.States.{Ready}
 use Rattle.placing.proofs.Found.{extent-at, left_so}
@@ -198,13 +197,13 @@ module _ {last : ℕ} {s : Slotted} {h : ℕ} (ready : Ready last s h) (dir : Bo
       let k = end_ready ready in
       (w.0, w.1, rw ends k.below, w.2, w.3, λ q. end_apart ready dir p x e (sym ends ∙ q), rw ends k.used)
 
-  module _ (step : Step) (t : Anodes) (plan : step_plan step 1 t ≡ put 3444 dir z (s.anodes.block x) (exists_by s.slots) (without_first s.anodes p x)) where
+  module _ (step : Result BlockNo Refusal) (t : Anodes) (plan : step_plan step 1 t ≡ put 3444 dir z (s.anodes.block x) (exists_by s.slots) (without_first s.anodes p x)) where
     -- done, it is the take
-    pub step_done : (w : BlockNo) → step ≡ Moved w → put 3444 dir (chain_end 3444 s.anodes h) (s.anodes.block x) (exists_by s.slots) (without_first s.anodes p x) ≡ planned t (run w.0 1)
-    step_done w q = rw (← ends) (sym plan ∙ ap (λ (r : Step). step_plan r 1 t) q)
+    pub step_done : (w : BlockNo) → step ≡ Ok w → put 3444 dir (chain_end 3444 s.anodes h) (s.anodes.block x) (exists_by s.slots) (without_first s.anodes p x) ≡ planned t (run w.0 1)
+    step_done w q = rw (← ends) (sym plan ∙ ap (λ (r : Result BlockNo Refusal). step_plan r 1 t) q)
 
     -- refused, it has left what has the block in hand
-    module _ (unmoved : UnlessMoved step (without_first s.anodes p x) t) (why : Refusal) (q : step ≡ Refused why) where
+    module _ (unmoved : UnlessMoved step (without_first s.anodes p x) t) (why : Refusal) (q : step ≡ Err why) where
       same : t ≡ without_first s.anodes p x
       same = left_so step (without_first s.anodes p x) t unmoved why q
 
@@ -214,7 +213,7 @@ module _ {last : ℕ} {s : Slotted} {h : ℕ} (ready : Ready last s h) (dir : Bo
 
       -- and so it is taken
       pub step_again : (b : Bool) (y : ℕ) → y ≡ s.anodes.block x → take_block 3444 (growth_if b) dir h s ≡ regrown (put 3444 dir z y) 28 (growth_if b (slotted t s.slots))
-      step_again b y here = rw (here, ends, same) (taken_again ready dir p x e b (number_of why) (rw (← ends) (sym plan ∙ ap (λ (r : Step). step_plan r 1 t) q)))
+      step_again b y here = rw (here, ends, same) (taken_again ready dir p x e b (number_of why) (rw (← ends) (sym plan ∙ ap (λ (r : Result BlockNo Refusal). step_plan r 1 t) q)))
 
 -- ---- the extent's first block out, in other tables
 

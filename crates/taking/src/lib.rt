@@ -1,7 +1,7 @@
 // Takes blocks of the free list for a chain, on the anodes in three lent tables and the slots in a fourth.
 #![tactic(auto)]
 
-ghost use Rattle.std.specs.Prelude.{false, cond, List, ◌≢◌, ◌≡◌, ℕ, ◌+◌, ◌<◌, eqb, length, get_or};
+ghost use Rattle.std.specs.Prelude.{false, List, ◌≢◌, ◌≡◌, ℕ, ◌<◌, length, get_or};
 ghost use Rattle.rules.specs.Anodes.{exists_by};
 ghost use Rattle.rules.specs.Plans.{regrown};
 ghost use Rattle.rules.specs.Space.{without_first, put, take_block, take_many};
@@ -12,47 +12,48 @@ ghost use Rattle.placing.specs.Steps.{step_plan, UnlessMoved, EndsIn};
 ghost use Rattle.placing.specs.States.{Ready};
 ghost use Rattle.growing.specs.Grown.{growth_if};
 ghost use Rattle.taking.specs.Extents.{extent_left};
-ghost use Rattle.taking.specs.Turns.{PutReady, TakenGrown, TakeCarries, TakeTurns, stopped_take};
+ghost use Rattle.taking.specs.Turns.{PutReady, TakenGrown, TakeCarries, TakeTurns};
 
 use disk::{AnodeNo, BlockNo, Refusal};
 use growing::grow_slots;
-use placing::{Moves, Step, put, without_run};
+use placing::{put, without_run};
 use searches::{Extent, free_extent, last_anode};
 use tables::entry;
 
-// What one take leaves to the next: the last anode of the chain that it is for, and the extent that has more blocks, `from` after `before`; `from` is 0 where it is not known.
+// What one take leaves to the next: the last anode of the chain that it is for, and the extent that has more blocks, where it is known.
 #[derive(Clone, Copy)]
 pub struct Taking {
     pub end: AnodeNo,
-    pub before: AnodeNo,
-    pub from: AnodeNo,
+    pub more: Option<Extent>,
 }
 
-// What a take of many answers: what it leaves to the next, or the refusal.
-#[derive(Clone, Copy)]
-pub enum TakeTurn {
-    Goes(Taking),
-    Stops(Refusal),
-}
-
-// Takes the first block of anode `x`, which stands after `p` on the free list, for the chain whose last anode is `z`; `dir`: a directory's.
+// Takes the first block of the extent `from` of the free list for the chain whose last anode is `z`; `dir`: a directory's.
 fn take_from(
     slots: &[u16],
     dir: bool,
-    p: AnodeNo,
-    x: AnodeNo,
+    from: Extent,
     z: AnodeNo,
     counts: &mut [u16],
     firsts: &mut [u16],
     nexts: &mut [u16],
-) -> Step
-    requires anode_tables { AnodeTables counts.old firsts.old nexts.old × (p.0 < 3444) × (x.0 < 3444) × (z.0 < 3444) }
-    requires nonzero { (0 < get_or counts.old x.0 0) × (get_or firsts.old x.0 0 < 65535) × (z.0 ≢ x.0) × (get_or firsts.old z.0 0 ≢ 0) }
-    ensures plan { step_plan result 1 (anodes_from counts.new firsts.new nexts.new) ≡ put 3444 dir z.0 (get_or firsts.old x.0 0) (exists_by (slots_from slots.now)) (without_first (anodes_from counts.old firsts.old nexts.old) p.0 x.0) }
-    ensures unmoved { UnlessMoved result (without_first (anodes_from counts.old firsts.old nexts.old) p.0 x.0) (anodes_from counts.new firsts.new nexts.new) }
+) -> Result<BlockNo, Refusal>
+    requires anode_tables { AnodeTables counts.old firsts.old nexts.old × (from.before.0 < 3444) × (from.anode.0 < 3444) × (z.0 < 3444) }
+    requires nonzero { (0 < get_or counts.old from.anode.0 0) × (get_or firsts.old from.anode.0 0 < 65535) × (z.0 ≢ from.anode.0) × (get_or firsts.old z.0 0 ≢ 0) }
+    ensures plan { step_plan result 1 (anodes_from counts.new firsts.new nexts.new) ≡ put 3444 dir z.0 (get_or firsts.old from.anode.0 0) (exists_by (slots_from slots.now)) (without_first (anodes_from counts.old firsts.old nexts.old) from.before.0 from.anode.0) }
+    ensures unmoved { UnlessMoved result (without_first (anodes_from counts.old firsts.old nexts.old) from.before.0 from.anode.0) (anodes_from counts.new firsts.new nexts.new) }
 {
-    let y = BlockNo(entry(firsts, x.0 as usize));
-    without_run(counts, firsts, nexts, AnodeNo(2), p, x, 1, BlockNo(y.0 + 1));
+    let y = BlockNo(entry(firsts, from.anode.0 as usize));
+    let rest = BlockNo(y.0 + 1);
+    without_run(
+        counts,
+        firsts,
+        nexts,
+        AnodeNo(2),
+        from.before,
+        from.anode,
+        1,
+        rest,
+    );
     put(slots, dir, z, y, counts, firsts, nexts)
 }
 
@@ -66,13 +67,13 @@ fn put_grown(
     counts: &mut [u16],
     firsts: &mut [u16],
     nexts: &mut [u16],
-) -> Step
+) -> Result<BlockNo, Refusal>
     requires anode_tables { AnodeTables counts.old firsts.old nexts.old × (length slots.old ≡ 42) }
     requires put_ready { PutReady z.0 (table_from counts.old firsts.old nexts.old slots.old) }
     ensures { step_plan result 1 (table_from counts.new firsts.new nexts.new slots.new) ≡ regrown (put 3444 dir z.0 y.0) 28 (growth_if growing (table_from counts.old firsts.old nexts.old slots.old)) }
 {
     if !grow_slots(growing, slots, counts, firsts, nexts) {
-        return Step::Refused(Refusal::NoFreeAnode);
+        return Err(Refusal::NoFreeAnode);
     }
     put(slots, dir, z, y, counts, firsts, nexts)
 }
@@ -86,30 +87,26 @@ pub fn take_block(
     counts: &mut [u16],
     firsts: &mut [u16],
     nexts: &mut [u16],
-) -> Step
+) -> Result<BlockNo, Refusal>
     requires anode_tables { AnodeTables counts.old firsts.old nexts.old × (length slots.old ≡ 42) }
     requires by_index { (last : ℕ) × Ready last (table_from counts.old firsts.old nexts.old slots.old) head.0 }
     ensures { step_plan result 1 (table_from counts.new firsts.new nexts.new slots.new) ≡ take_block 3444 (growth_if growing) dir head.0 (table_from counts.old firsts.old nexts.old slots.old) }
 {
-    let found = free_extent(dir, counts, nexts);
-    let Extent::At(p, x) = found else {
-        return Step::Refused(Refusal::NoFreeBlock);
-    };
+    let found = free_extent(dir, counts, nexts).ok_or(Refusal::NoFreeBlock)?;
     let z = last_anode(nexts, head);
-    let y = BlockNo(entry(firsts, x.0 as usize));
-    let step = take_from(slots, dir, p, x, z, counts, firsts, nexts);
-    let Step::Refused(_) = step else {
-        return step;
-    };
+    let y = BlockNo(entry(firsts, found.anode.0 as usize));
+    if let Ok(taken) = take_from(slots, dir, found, z, counts, firsts, nexts) {
+        return Ok(taken);
+    }
     put_grown(growing, slots, dir, z, y, counts, firsts, nexts)
 }
 
-// The extent that a block of data is taken from: `x` after `p`, where that is known to have one, else the first that is found.
-fn extent_left(p: AnodeNo, x: AnodeNo, counts: &[u16], nexts: &[u16]) -> Extent
-    ensures { (f : List ℕ) → found_of result ≡ extent_left p.0 x.0 (anodes_from counts.now f nexts.now) }
+// The extent that a block of data is taken from: the one that is known to have more, else the first that is found.
+fn extent_left(more: Option<Extent>, counts: &[u16], nexts: &[u16]) -> Option<Extent>
+    ensures { (f : List ℕ) → found_of result ≡ extent_left more (anodes_from counts.now f nexts.now) }
 {
-    if x.0 != 0 {
-        return Extent::At(p, x);
+    if more.is_some() {
+        return more;
     }
     free_extent(false, counts, nexts)
 }
@@ -125,16 +122,6 @@ fn end_after(nexts: &[u16], z: AnodeNo) -> AnodeNo
     AnodeNo(next)
 }
 
-// Anode `x`, or 0 where it had one block only.
-fn more_in(x: AnodeNo, count: u16) -> AnodeNo
-    ensures { result.0 ≡ cond (eqb count 1) 0 x.0 }
-{
-    if count == 1 {
-        return AnodeNo(0);
-    }
-    x
-}
-
 // What is carried on once the slots have grown for block `y`, now nobody's, and the chain whose last anode is `end` has it: the extent is looked for anew.
 fn take_grown(
     growing: bool,
@@ -144,19 +131,15 @@ fn take_grown(
     counts: &mut [u16],
     firsts: &mut [u16],
     nexts: &mut [u16],
-) -> TakeTurn
+) -> Result<Taking, Refusal>
     requires anode_tables { AnodeTables counts.old firsts.old nexts.old × (length slots.old ≡ 42) }
     requires put_ready { PutReady end.0 (table_from counts.old firsts.old nexts.old slots.old) }
     ensures { TakenGrown result end.0 (table_from counts.new firsts.new nexts.new slots.new) (regrown (put 3444 false end.0 y.0) 28 (growth_if growing (table_from counts.old firsts.old nexts.old slots.old))) }
 {
-    let step = put_grown(growing, slots, false, end, y, counts, firsts, nexts);
-    let Step::Moved(_) = step else {
-        return TakeTurn::Stops(Refusal::NoFreeAnode);
-    };
-    TakeTurn::Goes(Taking {
+    put_grown(growing, slots, false, end, y, counts, firsts, nexts)?;
+    Ok(Taking {
         end: end_after(nexts, end),
-        before: AnodeNo(0),
-        from: AnodeNo(0),
+        more: None,
     })
 }
 
@@ -168,36 +151,21 @@ fn take_turn(
     counts: &mut [u16],
     firsts: &mut [u16],
     nexts: &mut [u16],
-) -> TakeTurn
+) -> Result<Taking, Refusal>
     requires anode_tables { AnodeTables counts.old firsts.old nexts.old × (length slots.old ≡ 42) }
     requires by_index { (last h : ℕ) × TakeCarries last h t (table_from counts.old firsts.old nexts.old slots.old) }
     ensures { (last h : ℕ) → TakeCarries last h t (table_from counts.old firsts.old nexts.old slots.old) → TakeTurns result (growth_if growing) last h (table_from counts.old firsts.old nexts.old slots.old) (table_from counts.new firsts.new nexts.new slots.new) }
 {
-    let found = extent_left(t.before, t.from, counts, nexts);
-    let Extent::At(p, x) = found else {
-        return TakeTurn::Stops(Refusal::NoFreeBlock);
-    };
-    let count = entry(counts, x.0 as usize);
-    let y = BlockNo(entry(firsts, x.0 as usize));
-    let step = take_from(slots, false, p, x, t.end, counts, firsts, nexts);
-    let Step::Moved(_) = step else {
+    let found = extent_left(t.more, counts, nexts).ok_or(Refusal::NoFreeBlock)?;
+    let count = entry(counts, found.anode.0 as usize);
+    let y = BlockNo(entry(firsts, found.anode.0 as usize));
+    let Ok(_) = take_from(slots, false, found, t.end, counts, firsts, nexts) else {
         return take_grown(growing, slots, t.end, y, counts, firsts, nexts);
     };
-    TakeTurn::Goes(Taking {
+    Ok(Taking {
         end: end_after(nexts, t.end),
-        before: p,
-        from: more_in(x, count),
+        more: (count != 1).then_some(found),
     })
-}
-
-// The answer of a run of takes that a refused one stops.
-fn stopped_take(turn: TakeTurn) -> Moves
-    ensures { result ≡ stopped_take turn }
-{
-    match turn {
-        TakeTurn::Goes(_) => Moves::Done,
-        TakeTurn::Stops(why) => Moves::Stopped(why),
-    }
 }
 
 // Takes `k` blocks of data for the chain of `head`, one at a time; `growing`: whether slots may grow for them. What a take found serves the next: the chain's last anode, and the extent that has more blocks.
@@ -209,24 +177,17 @@ pub fn take_many(
     counts: &mut [u16],
     firsts: &mut [u16],
     nexts: &mut [u16],
-) -> Moves
+) -> Result<(), Refusal>
     requires anode_tables { AnodeTables counts.old firsts.old nexts.old × (length slots.old ≡ 42) }
     requires by_index { (last : ℕ) × Ready last (table_from counts.old firsts.old nexts.old slots.old) head.0 }
     ensures { EndsIn result (table_from counts.new firsts.new nexts.new slots.new) (take_many 3444 (growth_if growing) false k head.0 (table_from counts.old firsts.old nexts.old slots.old)) }
 {
-    let mut left = k;
     let mut t = Taking {
         end: last_anode(nexts, head),
-        before: AnodeNo(0),
-        from: AnodeNo(0),
+        more: None,
     };
-    while 0 < left {
-        let turn = take_turn(growing, slots, t, counts, firsts, nexts);
-        let TakeTurn::Goes(next) = turn else {
-            return stopped_take(turn);
-        };
-        t = next;
-        left -= 1;
+    for _ in 0..k {
+        t = take_turn(growing, slots, t, counts, firsts, nexts)?;
     }
-    Moves::Done
+    Ok(())
 }

@@ -2,25 +2,27 @@
 #![tactic(auto)]
 
 ghost use Rattle.std.specs.Prelude.{◌≡◌, [], length};
+ghost use Rattle.disk.specs.Refusals.{answer_of};
 ghost use Rattle.rules.specs.Accepted.{tree_fault};
 ghost use Rattle.rules.specs.Counting.{any_below};
 ghost use Rattle.rules.specs.Walk.{dir_made};
 ghost use Rattle.laws.specs.Chains.{HeadTable};
 ghost use Rattle.anodes.specs.Loaded.{anodes_from, AnodeTables};
 ghost use Rattle.names.specs.Index.{Indexed};
-ghost use Rattle.tree.specs.Tree.{tree_number, Counts, Queued};
+ghost use Rattle.tree.specs.Tree.{Counts, Queued};
 ghost use Rattle.walk_steps.specs.Steps.{item_in, items_with, queue_of, entering, Proceeds, run_from, tally_made, WalkRoom, number_in, Numbered, StepNumbered, unnamed_at};
 ghost use Rattle.tree.specs.Steps.{conclusion};
 
 use disk::{AnodeNo, Refusal};
+use links::Links;
 use tables::entry;
-use walk_steps::{Tally, WalkStep, enter_anode};
+use walk_steps::{Tally, enter_anode};
 
-// What the walk finds: the files and the directories with the root, or the first fault.
+// What the walk counts: the files, and the directories with the root.
 #[derive(Clone, Copy)]
-pub enum TreeRead {
-    Counted(u16, u16),
-    Fault(Refusal),
+pub struct Counted {
+    pub files: u16,
+    pub dirs: u16,
 }
 
 // Enters what a directory holds, anode by anode of its chain.
@@ -37,30 +39,19 @@ fn enter_directory(
     head: AnodeNo,
     parent: AnodeNo,
     t: Tally,
-) -> WalkStep
+) -> Result<Tally, Refusal>
     requires { WalkRoom t marks.old queue.old parents.old × Numbered image.now index.old (number_in t) t }
     ensures entered { Proceeds result marks.new queue.new parents.new (entering t marks.old queue.old parents.old head.0 (items_with (item_in counts.now nexts.now heads.now) image.now (anodes_from counts.now firsts.now nexts.now) (dir_made head.0 parent.0))) }
     ensures numbered { StepNumbered result image.now index.new }
 {
     let mut tally = t;
-    let mut at = head;
-    let mut fuel: usize = 3444;
-    while fuel > 0 {
-        if at.0 == 0 {
-            return WalkStep::Go(tally);
-        }
-        let step = enter_anode(
-            image, counts, firsts, nexts, heads, marks, queue, parents, index, t, head, parent, at,
+    for a in Links::along(nexts, head) {
+        tally = enter_anode(
+            image, counts, firsts, nexts, heads, marks, queue, parents, index, t, head, parent, a,
             tally,
-        );
-        let WalkStep::Go(after) = step else {
-            return step;
-        };
-        tally = after;
-        at = AnodeNo(entry(nexts, at.0 as usize));
-        fuel -= 1;
+        )?;
     }
-    WalkStep::Go(tally)
+    Ok(tally)
 }
 
 // Takes directory after directory from the queue, until none is left.
@@ -74,29 +65,25 @@ fn walk_queue(
     queue: &mut [u16],
     parents: &mut [u16],
     index: &mut [u16],
-) -> TreeRead
+) -> Result<Counted, Refusal>
     requires { WalkRoom (tally_made 1 0) marks.old queue.old parents.old × Indexed image.now index.old 0 }
     ensures { conclusion result marks.new queue.new parents.new ≡ run_from (items_with (item_in counts.now nexts.now heads.now) image.now (anodes_from counts.now firsts.now nexts.now)) 3444 (queue_of queue.old parents.old 1) marks.old 0 [] }
 {
     let mut tally = Tally { last: 1, files: 0 };
     let mut first: usize = 0;
+    // a while loop, for the queue grows on the way
     while first < tally.last {
         let head = AnodeNo(entry(queue, first));
         let parent = AnodeNo(entry(parents, first));
-        let step = enter_directory(
+        tally = enter_directory(
             image, counts, firsts, nexts, heads, marks, queue, parents, index, head, parent, tally,
-        );
-        match step {
-            WalkStep::Go(after) => {
-                tally = after;
-            }
-            WalkStep::Fault(r) => {
-                return TreeRead::Fault(r);
-            }
-        }
+        )?;
         first += 1;
     }
-    TreeRead::Counted(tally.files, tally.last as u16)
+    Ok(Counted {
+        files: tally.files,
+        dirs: tally.last as u16,
+    })
 }
 
 // Whether anode `x` from 6 up heads a chain and has no mark.
@@ -133,10 +120,10 @@ pub fn walk_tree(
     heads: &[u16],
     queue: &mut [u16],
     parents: &mut [u16],
-) -> TreeRead
+) -> Result<Counted, Refusal>
     requires head_table { HeadTable heads.now (anodes_from counts.now firsts.now nexts.now) × AnodeTables counts.now firsts.now nexts.now }
     requires queue_len { (length queue.old ≡ 3444) × (length parents.old ≡ 3444) }
-    ensures answer { tree_number result ≡ tree_fault image.now (anodes_from counts.now firsts.now nexts.now) }
+    ensures answer { answer_of result ≡ tree_fault image.now (anodes_from counts.now firsts.now nexts.now) }
     ensures counted { Counts result image.now (anodes_from counts.now firsts.now nexts.now) }
     ensures queued { Queued result image.now (anodes_from counts.now firsts.now nexts.now) queue.new parents.new }
 {
@@ -148,12 +135,9 @@ pub fn walk_tree(
     parents[0] = 0;
     let found = walk_queue(
         image, counts, firsts, nexts, heads, &mut marks, queue, parents, &mut index,
-    );
-    if let TreeRead::Fault(_) = found {
-        return found;
-    }
+    )?;
     if any_unnamed(heads, &marks) {
-        return TreeRead::Fault(Refusal::UnnamedChain);
+        return Err(Refusal::UnnamedChain);
     }
-    found
+    Ok(found)
 }

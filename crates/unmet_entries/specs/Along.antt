@@ -1,17 +1,12 @@
--- The differences that a function gives for entries, handing_with out along a block, a chain and the queue. Assumes nothing.
-use Rattle.std.specs.Prelude.{ℕ, suc, ◌+◌, ◌≡◌, ◌≢◌, List, [], ◌∷◌, ◌++◌}
+-- The differences that a function gives for entries, handed out along a block, a chain and the queue. Assumes nothing.
+use Rattle.std.specs.Prelude.{ℕ, suc, ◌+◌, ◌≡◌, List, [], ◌∷◌, ◌++◌}
 use Rattle.std.proofs.Common.{sym, ap, ◌∙◌}
 use Rattle.std.proofs.Math.Numerals.{add-one}
 use Rattle.std.proofs.Math.ListN.{get_or}
-use Rattle.directory.specs.declared.Entry.{Entry}
-use Rattle.directory.specs.declared.Walked.{Walked}
-use Rattle.directory.specs.declared.Walked.TheVariants.{Found}
 use Rattle.rules.specs.Counting.{gather}
-use Rattle.rules.specs.Walk.{Entered, with_rest, entries_in}
+use Rattle.rules.specs.Walk.{Entered, entries_in}
 use Rattle.laws.specs.Bags.{gather_append}
-use Rattle.laws.specs.Chains.{gathered_none, gathered_end, gathered_step}
-use Rattle.laws.specs.Entries.{entered_at}
-use Rattle.lookup.proofs.Laws.{entries_along}
+use Rattle.lookup.proofs.Laws.{entries_along, along}
 use Rattle.walk_steps.specs.Steps.{dirs_from, queue_of}
 use Rattle.differences.specs.Differences.{Difference}
 use Rattle.differences.specs.Handing.{Handing, hand_all}
@@ -20,7 +15,7 @@ use Rattle.handing.specs.HandLaws.{hand_append}
 -- ---- the entries of a block, and those along a chain
 
 module _ (f : Entered → List Difference) (h : Handing) where
-  -- without an entry nothing is handing_with out
+  -- without an entry nothing is handed out
   pub hand_no_entries : (es : List Entered) → es ≡ [] → hand_all h (gather f es) ≡ h
   unfolding gather hand_all
   hand_no_entries es e = rw e
@@ -35,28 +30,10 @@ module _ (f : Entered → List Difference) (h : Handing) where
   unfolding gather
   hand_first es e rest r is here = rw (is, here) (sym (hand_append h (f e) (gather f rest)))
 
-  -- what is read at a place, with the entries behind it
-  pub hand_found : (w : Walked) (name : List ℕ) (start : ℕ) (rest : List Entered) (e : Entry) (r : Handing) → w ≡ Found e → r ≡ hand_all h (f (entered_at e name start)) →
-      hand_all r (gather f rest) ≡ hand_all h (gather f (with_rest w name start rest))
-  hand_found w name start rest e r is here = hand_first (with_rest w name start rest) (entered_at e name start) rest r (rw is) here
-
-  module _ (img firsts nexts : List ℕ) where
-    -- a chain that is at its end
-    pub hand_chain-end : (k a : ℕ) → a ≡ 0 → hand_all h (gather f (entries_along img firsts nexts k a)) ≡ h
-    unfolding entries_along
-    hand_chain-end k a e = hand_no_entries _ (gathered_end _ _ k a e)
-
-    -- no anode of it is left to be looked at
-    pub hand_chain-none : (k a : ℕ) → k ≡ 0 → hand_all h (gather f (entries_along img firsts nexts k a)) ≡ h
-    unfolding entries_along
-    hand_chain-none k a e = hand_no_entries _ (gathered_none _ _ k a e)
-
-    -- the entries of anode a's block, and those behind it
-    pub hand_chain_step : (k m a : ℕ) → k ≡ m + 1 → a ≢ 0 → (r : Handing) → r ≡ hand_all h (gather f (entries_in img (get_or firsts a 0))) →
-        hand_all r (gather f (entries_along img firsts nexts m (get_or nexts a 0))) ≡ hand_all h (gather f (entries_along img firsts nexts k a))
-    unfolding entries_along
-    hand_chain_step k m a fuel some r here =
-        rw (gathered_step (λ x. entries_in img (get_or firsts x 0)) (λ x. get_or nexts x 0) k m a fuel some, here) (sym (hand_join _ _))
+  -- the entries of the first of some anodes, and those behind it
+  pub hand_chain_step : (img firsts anodes : List ℕ) (a : ℕ) (rest : List ℕ) → anodes ≡ a ∷ rest → (r : Handing) → r ≡ hand_all h (gather f (entries_in img (get_or firsts a 0))) →
+      hand_all r (gather f (entries_along img firsts rest)) ≡ hand_all h (gather f (entries_along img firsts anodes))
+  hand_chain_step img firsts anodes a rest is r here = rw (along img firsts anodes a rest is, here) (sym (hand_join _ _))
 
 -- ---- the directories of the queue
 

@@ -1,2 +1,2 @@
--- What is handing_with out along entries, one after the other.
+-- What is handed out along entries, one after the other.
 pub mod Along

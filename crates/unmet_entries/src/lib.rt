@@ -3,9 +3,9 @@
 
 ghost use Rattle.std.specs.Prelude.{List, [], ◌≡◌, ℕ, ◌+◌, ◌*◌, ◌<◌, ◌≤◌, get_or};
 ghost use Rattle.rules.specs.Counting.{gather};
-ghost use Rattle.rules.specs.Walk.{Entered, entries_in};
+ghost use Rattle.rules.specs.Walk.{entries_in};
 ghost use Rattle.rules.specs.Lookup.{entries_of};
-ghost use Rattle.laws.specs.Entries.{Unbroken};
+ghost use Rattle.laws.specs.Entries.{entered_at, Unbroken};
 ghost use Rattle.anodes.specs.Loaded.{anodes_from};
 ghost use Rattle.walk_steps.specs.Steps.{queue_of};
 ghost use Rattle.differences.specs.Pairs.{unmet};
@@ -13,48 +13,34 @@ ghost use Rattle.differences.specs.Handing.{hand_all};
 ghost use Rattle.handing.specs.Differs.{handing_with};
 
 use disk::{AnodeNo, BlockNo, block_part};
-use endian::{read8, read16};
 use handing::{Differs, Handed, hand_out};
+use links::Links;
+use reader::{EntryRead, Reader};
 use tables::entry;
 
-// Hands out the entry at a place of block `b`, unless it was met.
-fn unmet_entry(
-    met: &[u16],
-    b: BlockNo,
-    at: usize,
-    anode: AnodeNo,
-    out: &mut [u32],
-    c: Handed,
-) -> Handed
-    requires { at ≤ 65535 }
-    ensures { (f : Entered) → f.anode ≡ anode.0 → f.start ≡ b.0 * 512 + at → handing_with out.new result ≡ hand_all (handing_with out.old c) (unmet met.now f) }
+// Hands out an entry that was read in block `b`, unless it was met.
+fn unmet_entry(met: &[u16], b: BlockNo, read: EntryRead, out: &mut [u32], c: Handed) -> Handed
+    requires { read.at ≤ 65535 }
+    ensures { (name : List ℕ) → handing_with out.new result ≡ hand_all (handing_with out.old c) (unmet met.now (entered_at read.entry name (b.0 * 512 + read.at))) }
 {
-    if entry(met, anode.0 as usize) != 0 {
+    if entry(met, read.entry.anode.0 as usize) != 0 {
         return c;
     }
-    let start = (b.0 as u32) * 512 + (at as u32);
+    let start = (b.0 as u32) * 512 + (read.at as u32);
     hand_out(out, c, Differs::OnlySecond(start))
 }
 
-// Those of block `b`, whose entries are right: the length byte and the anode are all that is read of one.
+// Those of block `b`.
 fn unmet_block(image: &[u8], met: &[u16], b: BlockNo, out: &mut [u32], c: Handed) -> Handed
     requires { Unbroken (entries_in image.now b.0) }
     ensures { handing_with out.new result ≡ hand_all (handing_with out.old c) (gather (unmet met.now) (entries_in image.now b.0)) }
 {
-    let block = block_part(image, b);
     let mut so_far = c;
-    let mut at: usize = 16;
-    let mut fuel: usize = 28;
-    while fuel > 0 {
-        let len = read8(block, at) as usize;
-        if len == 0 {
+    for item in Reader::of(block_part(image, b)) {
+        let Ok(read) = item else {
             return so_far;
-        }
-        let anode = AnodeNo(read16(block, at + 2));
-        let after = unmet_entry(met, b, at, anode, out, so_far);
-        so_far = after;
-        at += len;
-        fuel -= 1;
+        };
+        so_far = unmet_entry(met, b, read, out, so_far);
     }
     so_far
 }
@@ -73,16 +59,9 @@ fn unmet_directory(
     ensures { handing_with out.new result ≡ hand_all (handing_with out.old c) (gather (unmet met.now) (entries_of image.now (anodes_from [] firsts.now nexts.now) head.0)) }
 {
     let mut so_far = c;
-    let mut at = head.0 as usize;
-    let mut fuel: usize = 3444;
-    while fuel > 0 {
-        if at == 0 {
-            return so_far;
-        }
-        let after = unmet_block(image, met, BlockNo(entry(firsts, at)), out, so_far);
-        so_far = after;
-        at = entry(nexts, at) as usize;
-        fuel -= 1;
+    for a in Links::along(nexts, head) {
+        let b = BlockNo(entry(firsts, a.0 as usize));
+        so_far = unmet_block(image, met, b, out, so_far);
     }
     so_far
 }
@@ -102,12 +81,9 @@ pub fn hand_unmet(
     ensures { (parents : List ℕ) → handing_with out.new result ≡ hand_all (handing_with out.old c) (gather (λ d. gather (unmet met.now) (entries_of image.now (anodes_from [] firsts.now nexts.now) d.head)) (queue_of queue.now parents dirs)) }
 {
     let mut so_far = c;
-    let mut i: u16 = 0;
-    while i < dirs {
+    for i in 0..dirs {
         let head = AnodeNo(entry(queue, i as usize));
-        let after = unmet_directory(image, firsts, nexts, met, head, out, so_far);
-        so_far = after;
-        i += 1;
+        so_far = unmet_directory(image, firsts, nexts, met, head, out, so_far);
     }
     so_far
 }

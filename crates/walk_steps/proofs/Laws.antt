@@ -1,4 +1,5 @@
 -- Laws of the walk's steps. Assumes nothing.
+use Rattle.std.specs.Prelude.{Some, Ok, Err}
 use Prim.Native.Nat.{ℕ, zero, suc, ◌+◌, ◌<◌, ◌≤◌}
 use mathlib.Core.Path.{◌≡◌, refl, sym, ap, ◌∙◌}
 use mathlib.Core.Bool.{Bool, true, false, cond, false≢true}
@@ -14,16 +15,15 @@ use Rattle.disk.specs.declared.Refusal.{Refusal}
 use Rattle.disk.specs.Refusals.{number_of}
 use Rattle.directory.specs.declared.Kind.TheVariants.{File, Directory}
 use Rattle.directory.specs.declared.Entry.{Entry}
-use Rattle.directory.specs.declared.Walked.{Walked}
-use Rattle.directory.specs.declared.Walked.TheVariants.{Found, End, Fault}
-use Rattle.rules.specs.Counting.{sum_list, any_in, same_bytes}
+use Rattle.directory.specs.Entries.{Walked}
+use Rattle.rules.specs.Counting.{sum_list, gather, any_in, same_bytes}
 use Rattle.rules.specs.Folding.{folded}
 use Rattle.rules.specs.Anodes.{Anodes, limit}
 use Rattle.rules.specs.Walk.{Dir, Entered, Item, with_rest, entries_in, is_block_of, items_for, broken_item, as_twin, twins, blocks_for, dir_made}
 use Rattle.laws.specs.Apart.{seen_after, twins-append}
 use Rattle.laws.specs.Entries.{entered_at}
-use Rattle.laws.specs.Chains.{chain-none, chain_step, gathered_step, chain-end}
-use Rattle.walk_steps.specs.Steps.{sum_from, head_at, item_in, Progress, stopped, going, refuse, enter_item, onward, enter_all, items_from, items_along, halted, ended, after_dir, run_from, dirs_from, queue_of, marked}
+use Rattle.laws.specs.Chains.{chain-none, chain_step, chain-end}
+use Rattle.walk_steps.specs.Steps.{sum_from, head_at, item_in, Progress, stopped, going, refuse, enter_item, onward, enter_all, items_from, halted, ended, after_dir, run_from, dirs_from, queue_of, marked}
 
 -- ---- the sum along a chain
 
@@ -152,46 +152,38 @@ enter_none head is queue marks files e = rw e
 
 -- what is read at a place, with the entries behind it
 module _ (counts nexts heads : List ℕ) (head : ℕ) (seen : List (List ℕ)) (name : List ℕ) (start : ℕ) (rest : List Entered) (queue : List Dir) (marks : List ℕ) (files : ℕ) where
-  pub enter_end : (w : Walked) → w ≡ End → enter_all head (twins seen (map (item_in counts nexts heads) (with_rest w name start rest))) queue marks files ≡ going queue marks files
-  unfolding enter_all twins
-  enter_end w is = rw is
-
-  pub seen_end : (w : Walked) → w ≡ End → seen_after (map (item_in counts nexts heads) (with_rest w name start rest)) seen ≡ seen
-  unfolding seen_after
-  seen_end w is = rw is
-
   -- an entry that breaks the rules stops the walk with the number of its fault, whatever was seen
-  pub enter_fault : (w : Walked) (r : Refusal) → w ≡ Fault r → number_of r ≡ 12
+  pub enter_fault : (w : Walked) (r : Refusal) → w ≡ Err r → number_of r ≡ 12
       → enter_all head (twins seen (map (item_in counts nexts heads) (with_rest w name start rest))) queue marks files ≡ stopped (number_of r)
   unfolding enter_all twins enter_item item_in as_twin
   enter_fault w r is n = rw (is, n) (go (any_in (same_bytes (folded [])) seen) refl) where
-    go : (t : Bool) → any_in (same_bytes (folded [])) seen ≡ t → enter_all head (twins seen (map (item_in counts nexts heads) (with_rest (Fault r) name start rest))) queue marks files ≡ stopped 12
+    go : (t : Bool) → any_in (same_bytes (folded [])) seen ≡ t → enter_all head (twins seen (map (item_in counts nexts heads) (with_rest (Err r) name start rest))) queue marks files ≡ stopped 12
     go true e = rw e
     go false e = rw e
 
   module _ (e : Entry) where
     -- 17: the name was seen
     pub enter_alike : any_in (same_bytes (folded name)) seen ≡ true
-        → enter_all head (twins seen (map (item_in counts nexts heads) (with_rest (Found e) name start rest))) queue marks files ≡ stopped 17
+        → enter_all head (twins seen (map (item_in counts nexts heads) (with_rest (Ok (Some e)) name start rest))) queue marks files ≡ stopped 17
     unfolding enter_all twins enter_item item_in as_twin
     enter_alike h = go (head_at heads e.anode.0) refl where
-      go : (t : Bool) → head_at heads e.anode.0 ≡ t → enter_all head (twins seen (map (item_in counts nexts heads) (with_rest (Found e) name start rest))) queue marks files ≡ stopped 17
+      go : (t : Bool) → head_at heads e.anode.0 ≡ t → enter_all head (twins seen (map (item_in counts nexts heads) (with_rest (Ok (Some e)) name start rest))) queue marks files ≡ stopped 17
       go true i = rw (h, i)
       go false i = rw (h, i)
 
     module _ (new : any_in (same_bytes (folded name)) seen ≡ false) where
       pub enter_stop : (n : ℕ) → enter_item head (item_in counts nexts heads (entered_at e name start)) queue marks files ≡ stopped n
-          → enter_all head (twins seen (map (item_in counts nexts heads) (with_rest (Found e) name start rest))) queue marks files ≡ stopped n
+          → enter_all head (twins seen (map (item_in counts nexts heads) (with_rest (Ok (Some e)) name start rest))) queue marks files ≡ stopped n
       unfolding enter_all twins enter_item any_in same_bytes as_twin item_in
       enter_stop n h = rw (new, h)
 
       pub enter_step : (more : List (List ℕ)) (q : List Dir) (l : List ℕ) (f : ℕ) → more ≡ folded name ∷ seen → enter_item head (item_in counts nexts heads (entered_at e name start)) queue marks files ≡ going q l f
-          → enter_all head (twins seen (map (item_in counts nexts heads) (with_rest (Found e) name start rest))) queue marks files ≡ enter_all head (twins more (map (item_in counts nexts heads) rest)) q l f
+          → enter_all head (twins seen (map (item_in counts nexts heads) (with_rest (Ok (Some e)) name start rest))) queue marks files ≡ enter_all head (twins more (map (item_in counts nexts heads) rest)) q l f
       unfolding enter_all twins enter_item item_in
       enter_step more q l f m h = rw (new, h, m)
 
     pub seen_step : (more : List (List ℕ)) → more ≡ folded name ∷ seen
-        → seen_after (map (item_in counts nexts heads) (with_rest (Found e) name start rest)) seen ≡ seen_after (map (item_in counts nexts heads) rest) more
+        → seen_after (map (item_in counts nexts heads) (with_rest (Ok (Some e)) name start rest)) seen ≡ seen_after (map (item_in counts nexts heads) rest) more
     unfolding seen_after item_in
     seen_step more m = rw m
 
@@ -233,20 +225,21 @@ pub anode_block : (item : Entered → Item) (img : List ℕ) (s : Anodes) (d : D
 unfolding items_for
 anode_block item img s d a n h = rw (eq-eqb (s.count a) 1 n, h)
 
-module _ (item : Entered → Item) (img : List ℕ) (s : Anodes) (d : Dir) (a head : ℕ) (seen : List (List ℕ)) (queue : List Dir) (marks : List ℕ) (files k m : ℕ) (fuel : k ≡ m + 1) (some : a ≡ 0 → ⊥) where
-  -- the items of anode a, and those behind it
-  along_items : enter_all head (twins seen (items_along item img s d k a)) queue marks files
-      ≡ onward (enter_all head (twins seen (items_from item img s d a)) queue marks files) (enter_all head (twins (seen_after (items_from item img s d a) seen) (items_along item img s d m (s.next a))))
+-- the items of a directory's anodes: those of the first, and those of the rest
+module _ (item : Entered → Item) (img : List ℕ) (s : Anodes) (d : Dir) (a : ℕ) (rest : List ℕ) (head : ℕ) (seen : List (List ℕ)) (queue : List Dir) (marks : List ℕ) (files : ℕ) where
+  along_items : enter_all head (twins seen (gather (items_from item img s d) (a ∷ rest))) queue marks files
+      ≡ onward (enter_all head (twins seen (items_from item img s d a)) queue marks files) (enter_all head (twins (seen_after (items_from item img s d a) seen) (gather (items_from item img s d) rest)))
+  unfolding gather
   along_items =
-      rw (gathered_step (items_from item img s d) s.next k m a fuel some, twins-append seen (items_from item img s d a) (items_along item img s d m (s.next a)))
-      (enter_append head (twins seen (items_from item img s d a)) (twins (seen_after (items_from item img s d a) seen) (items_along item img s d m (s.next a))) queue marks files)
+      rw (twins-append seen (items_from item img s d a) (gather (items_from item img s d) rest))
+      (enter_append head (twins seen (items_from item img s d a)) (twins (seen_after (items_from item img s d a) seen) (gather (items_from item img s d) rest)) queue marks files)
 
   pub along_stop : (n : ℕ) → enter_all head (twins seen (items_from item img s d a)) queue marks files ≡ stopped n
-      → enter_all head (twins seen (items_along item img s d k a)) queue marks files ≡ stopped n
+      → enter_all head (twins seen (gather (items_from item img s d) (a ∷ rest))) queue marks files ≡ stopped n
   along_stop n h = along_items ∙ rw h
 
   pub along_step : (more : List (List ℕ)) (q : List Dir) (l : List ℕ) (f : ℕ) → more ≡ seen_after (items_from item img s d a) seen → enter_all head (twins seen (items_from item img s d a)) queue marks files ≡ going q l f
-      → enter_all head (twins seen (items_along item img s d k a)) queue marks files ≡ enter_all head (twins more (items_along item img s d m (s.next a))) q l f
+      → enter_all head (twins seen (gather (items_from item img s d) (a ∷ rest))) queue marks files ≡ enter_all head (twins more (gather (items_from item img s d) rest)) q l f
   along_step more q l f e h = along_items ∙ rw (h, e)
 
 -- nothing is left

@@ -1,5 +1,5 @@
 -- The walk as the code makes it: a table of marks for the named anodes, two tables for the queue, and counts.
-use Rattle.std.specs.Prelude.{ℕ, zero, suc, ◌+◌, ◌-◌, ◌≤◌, ◌≡◌, Bool, false, cond, ◌&&◌, List, [], ◌∷◌, ◌++◌, length, get_or, set, eqb, leb, ltb}
+use Rattle.std.specs.Prelude.{ℕ, zero, suc, ◌+◌, ◌-◌, ◌≤◌, ◌≡◌, Bool, false, cond, ◌&&◌, List, [], ◌∷◌, ◌++◌, length, get_or, set, eqb, leb, ltb, Result, Ok, Err}
 use Rattle.disk.specs.Refusals.{number_of}
 use Rattle.rules.specs.Counting.{sum_list, gather}
 use Rattle.rules.specs.Folding.{folded}
@@ -8,8 +8,7 @@ use Rattle.rules.specs.Chains.{chain_of}
 use Rattle.rules.specs.Walk.{Dir, Entered, Item, entries_in, is_block_of, blocks_for, items_for, twins, dir_made}
 use Rattle.names.specs.Index.{seen_in, Indexed}
 use Rattle.walk_steps.specs.declared.Tally.{Tally}
-use Rattle.walk_steps.specs.declared.WalkStep.{WalkStep}
-use Rattle.walk_steps.specs.declared.WalkStep.TheVariants.{Go, Fault}
+use Rattle.disk.specs.declared.Refusal.{Refusal}
 
 -- the sum of the counts along a chain of at most k anodes
 unfoldable pub sum_from : List ℕ → List ℕ → ℕ → ℕ → ℕ
@@ -113,9 +112,9 @@ abbrev pub entering : Tally → List ℕ → List ℕ → List ℕ → ℕ → L
 entering t marks queue parents head is = enter_all head is (queue_of queue parents t.last) marks t.files
 
 -- the step's answer and the tables that it leaves
-abbrev pub progress : WalkStep → List ℕ → List ℕ → List ℕ → Progress
-progress (Go t) marks queue parents = going (queue_of queue parents t.last) marks t.files
-progress (Fault r) marks queue parents = stopped (number_of r)
+abbrev pub progress : Result Tally Refusal → List ℕ → List ℕ → List ℕ → Progress
+progress (Ok t) marks queue parents = going (queue_of queue parents t.last) marks t.files
+progress (Err r) marks queue parents = stopped (number_of r)
 
 -- a tally, by its two numbers
 abbrev pub tally_made : ℕ → ℕ → Tally
@@ -130,12 +129,12 @@ abbrev pub WalkRoom : Tally → List ℕ → List ℕ → List ℕ → Type 0
 WalkRoom t marks queue parents = (length marks ≡ limit) × (length queue ≡ limit) × (length parents ≡ limit) × Fits t marks
 
 -- what a step that goes on leaves still suffices
-abbrev pub StepFits : WalkStep → List ℕ → Type 0
-StepFits (Go t) marks = Fits t marks
-StepFits (Fault r) marks = Unit {0}
+abbrev pub StepFits : Result Tally Refusal → List ℕ → Type 0
+StepFits (Ok t) marks = Fits t marks
+StepFits (Err r) marks = Unit {0}
 
 -- a step that comes to p and leaves tables that suffice
-abbrev pub Proceeds : WalkStep → List ℕ → List ℕ → List ℕ → Progress → Type 0
+abbrev pub Proceeds : Result Tally Refusal → List ℕ → List ℕ → List ℕ → Progress → Type 0
 Proceeds r marks queue parents p = (progress r marks queue parents ≡ p) × StepFits r marks
 
 -- the number of the next entry: how many were met before it; the root is queued and has no entry
@@ -151,11 +150,11 @@ abbrev pub Numbered : List ℕ → List ℕ → ℕ → Tally → Type 0
 Numbered img index from t = Indexed img index (number_in t) × (1 ≤ t.last) × (from ≤ number_in t)
 
 -- what a step that goes on leaves in the index: the names of all entries met
-abbrev pub StepNumbered : WalkStep → List ℕ → List ℕ → Type 0
-StepNumbered (Go t) img index = Numbered img index (number_in t) t
-StepNumbered (Fault r) img index = Unit {0}
+abbrev pub StepNumbered : Result Tally Refusal → List ℕ → List ℕ → Type 0
+StepNumbered (Ok t) img index = Numbered img index (number_in t) t
+StepNumbered (Err r) img index = Unit {0}
 
 -- and those of this directory are `seen`
-abbrev pub StepSeen : WalkStep → List ℕ → List ℕ → ℕ → List (List ℕ) → Type 0
-StepSeen (Go t) img index from seen = Numbered img index from t × (seen_by img index from t ≡ seen)
-StepSeen (Fault r) img index from seen = Unit {0}
+abbrev pub StepSeen : Result Tally Refusal → List ℕ → List ℕ → ℕ → List (List ℕ) → Type 0
+StepSeen (Ok t) img index from seen = Numbered img index from t × (seen_by img index from t ≡ seen)
+StepSeen (Err r) img index from seen = Unit {0}

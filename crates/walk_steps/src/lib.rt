@@ -1,4 +1,4 @@
-// The steps of the walk over the directories: an entry, a block, an anode of a directory; refusals 12 to 15 and 17.
+// The steps of the walk over the directories: an entry, a block, an anode of a directory; refusals 12 to 15 and 17. A step answers the tally after it, or the first fault.
 #![tactic(auto)]
 
 ghost use Rattle.std.specs.Prelude.{◌≡◌, ℕ, ◌+◌, ◌<◌, ◌≤◌, List, map};
@@ -8,10 +8,11 @@ ghost use Rattle.laws.specs.Entries.{entered_at};
 ghost use Rattle.anodes.specs.Loaded.{anodes_from};
 ghost use Rattle.walk_steps.specs.Steps.{sum_from, head_at, item_in, enter_item, items_from, queue_of, entering, Proceeds, tally_made, WalkRoom, number_in, seen_by, Numbered, StepSeen};
 
-use directory::{Entry, Kind, Walked, directory_header_in};
+use directory::{Entry, Kind, directory_header_in};
 use disk::{AnodeNo, BlockNo, Refusal, block_part};
+use links::Links;
 use names::enter_name;
-use reader::read_entry;
+use reader::Reader;
 use tables::{entry, set_entry};
 
 // How many directories were queued and how many files met.
@@ -21,27 +22,13 @@ pub struct Tally {
     pub files: u16,
 }
 
-// What a part of the walk comes to: the tally after it, or the first fault.
-#[derive(Clone, Copy)]
-pub enum WalkStep {
-    Go(Tally),
-    Fault(Refusal),
-}
-
 // How many blocks the chain from `a` owns.
 pub fn chain_sum(counts: &[u16], nexts: &[u16], a: AnodeNo) -> u32
     ensures { result ≡ sum_from counts.now nexts.now 3444 a.0 }
 {
     let mut sum: u32 = 0;
-    let mut at = a.0 as usize;
-    let mut fuel: usize = 3444;
-    while fuel > 0 {
-        if at == 0 {
-            return sum;
-        }
-        sum += entry(counts, at) as u32;
-        at = entry(nexts, at) as usize;
-        fuel -= 1;
+    for x in Links::along(nexts, a) {
+        sum += entry(counts, x.0 as usize) as u32;
     }
     sum
 }
@@ -125,7 +112,7 @@ fn enter(
     head: AnodeNo,
     e: Entry,
     t: Tally,
-) -> WalkStep
+) -> Result<Tally, Refusal>
     requires { WalkRoom t marks.old queue.old parents.old }
     ensures { (name : List ℕ) (start : ℕ) → Proceeds result marks.new queue.new parents.new (enter_item head.0 (item_in counts.now nexts.now heads.now (entered_at e name start)) (queue_of queue.old parents.old t.last) marks.old t.files) }
 {
@@ -133,24 +120,24 @@ fn enter(
     let kind = e.kind;
     let i = a.0 as usize;
     if !head_at(heads, a) {
-        return WalkStep::Fault(Refusal::EntryAnode);
+        return Err(Refusal::EntryAnode);
     }
     if entry(marks, i) != 0 {
-        return WalkStep::Fault(Refusal::NamedTwice);
+        return Err(Refusal::NamedTwice);
     }
     match kind {
         Kind::File => {
             if chain_sum(counts, nexts, a) as u64 != blocks_for(e.size as u64) {
-                return WalkStep::Fault(Refusal::FileSize);
+                return Err(Refusal::FileSize);
             }
             set_entry(marks, i, 1);
-            WalkStep::Go(with_file(t))
+            Ok(with_file(t))
         }
         Kind::Directory => {
             set_entry(marks, i, 1);
             set_entry(queue, t.last, a.0);
             set_entry(parents, t.last, head.0);
-            WalkStep::Go(with_directory(t))
+            Ok(with_directory(t))
         }
     }
 }
@@ -169,35 +156,22 @@ fn enter_block(
     head: AnodeNo,
     b: BlockNo,
     t: Tally,
-) -> WalkStep
+) -> Result<Tally, Refusal>
     requires { WalkRoom t marks.old queue.old parents.old × Numbered image.now index.old from t }
     ensures entered { Proceeds result marks.new queue.new parents.new (entering t marks.old queue.old parents.old head.0 (twins (seen_by image.now index.old from t) (map (item_in counts.now nexts.now heads.now) (entries_in image.now b.0)))) }
     ensures seen { StepSeen result image.now index.new from (seen_after (map (item_in counts.now nexts.now heads.now) (entries_in image.now b.0)) (seen_by image.now index.old from t)) }
 {
     let block = block_part(image, b);
     let mut tally = t;
-    let mut at: usize = 16;
-    let mut fuel: usize = 28;
-    while fuel > 0 {
-        let read = read_entry(block, at);
-        let walked = read.walked;
-        let e = match walked {
-            Walked::Found(e) => e,
-            Walked::End => return WalkStep::Go(tally),
-            Walked::Fault(r) => return WalkStep::Fault(r),
-        };
-        if enter_name(image, index, from, number_in(tally), b, at) {
-            return WalkStep::Fault(Refusal::NamesAlike);
+    for item in Reader::of(block) {
+        let read = item?;
+        if enter_name(image, index, from, number_in(tally), b, read.at) {
+            return Err(Refusal::NamesAlike);
         }
-        let step = enter(counts, nexts, heads, marks, queue, parents, head, e, tally);
-        let WalkStep::Go(after) = step else {
-            return step;
-        };
-        tally = after;
-        at = read.after;
-        fuel -= 1;
+        let e = read.entry;
+        tally = enter(counts, nexts, heads, marks, queue, parents, head, e, tally)?;
     }
-    WalkStep::Go(tally)
+    Ok(tally)
 }
 
 // Enters what anode `a` of a directory holds: one block that is marked as the directory's; `start`: the tally at the directory's start.
@@ -216,18 +190,18 @@ pub fn enter_anode(
     parent: AnodeNo,
     a: AnodeNo,
     t: Tally,
-) -> WalkStep
+) -> Result<Tally, Refusal>
     requires walk_room { WalkRoom t marks.old queue.old parents.old × Numbered image.now index.old (number_in start) t }
     requires le_last { (1 ≤ start.last) × (start.last ≤ 3444) }
     ensures entered { Proceeds result marks.new queue.new parents.new (entering t marks.old queue.old parents.old head.0 (twins (seen_by image.now index.old (number_in start) t) (items_from (item_in counts.now nexts.now heads.now) image.now (anodes_from counts.now firsts.now nexts.now) (dir_made head.0 parent.0) a.0))) }
     ensures seen { StepSeen result image.now index.new (number_in start) (seen_after (items_from (item_in counts.now nexts.now heads.now) image.now (anodes_from counts.now firsts.now nexts.now) (dir_made head.0 parent.0) a.0) (seen_by image.now index.old (number_in start) t)) }
 {
     if entry(counts, a.0 as usize) != 1 {
-        return WalkStep::Fault(Refusal::DirectoryBlock);
+        return Err(Refusal::DirectoryBlock);
     }
     let b = BlockNo(entry(firsts, a.0 as usize));
     if !is_block_of(image, head, parent, b) {
-        return WalkStep::Fault(Refusal::DirectoryBlock);
+        return Err(Refusal::DirectoryBlock);
     }
     enter_block(
         image,

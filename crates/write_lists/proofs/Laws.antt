@@ -16,11 +16,11 @@ use Rattle.rules.specs.Anodes.{Anodes}
 use Rattle.rules.specs.Chains.{run}
 use Rattle.laws.specs.Sums.{one_at_some}
 use Rattle.laws.specs.Bags.{gather_append, occurrences-nil, occurrences-cons, occurrences-append, occurrences-here, occurrences-later}
-use Rattle.laws.specs.Chains.{gathered_step, run_step, length_run, Inside}
-use Rattle.laws.specs.ChainBlocks.{extent, blocks_from}
+use Rattle.laws.specs.Chains.{run_step, length_run, Inside}
+use Rattle.laws.specs.ChainBlocks.{extent}
 use Rattle.safe_rules.specs.SafePlans.{slot_blocks}
 use Rattle.safe_rules.specs.SafeWrites.{BlockWrite, block_write, writes_of, write_bytes, list_bytes}
-use Rattle.contents.proofs.Writing.{first_inside, along_inside}
+use Rattle.contents.proofs.Writing.{first_inside, inside_append}
 use Rattle.write_lists.specs.Puts.{with_writes, held_by}
 
 -- ---- writes as bytes
@@ -95,29 +95,25 @@ run_on_write out at img b n m more inside new place is end =
 pub run_low : (b c : ℕ) → b ≤ 65535 → (0 < c → b + c ≤ 65535) → b + c ≤ 65535
 run_low b c low within = elim (less? 0 c) [ inl some ↦ within some | inr none ↦ omega arith ]
 
--- an anode of a chain: its c blocks from b upward, and the anodes behind it from n on
-module _ (img : List ℕ) (s : Anodes) (k m a : ℕ) (fuel : k ≡ m + 1) (some : a ≢ 0) (inside : Inside img (blocks_from s k a)) (b c n : ℕ) (first : b ≡ s.block a) (count : c ≡ s.count a) (next : n ≡ s.next a) where
+-- an anode of a chain: its c blocks from b upward, and those behind it
+module _ (img : List ℕ) (s : Anodes) (a : ℕ) (behind : List ℕ) (inside : Inside img (extent s a ++ behind)) (b c : ℕ) (first : b ≡ s.block a) (count : c ≡ s.count a) where
   run_is : run b c ≡ extent s a
   unfolding extent
   run_is = rw (first, count)
 
   pub anode_inside : Inside img (run b c)
-  anode_inside = rw run_is (along_inside img s k m a fuel some inside).0
+  anode_inside = rw run_is (inside_append img (extent s a) behind inside).0
 
-  pub behind_inside : Inside img (blocks_from s m n)
-  behind_inside = rw next (along_inside img s k m a fuel some inside).1
+  pub behind_inside : Inside img behind
+  behind_inside = (inside_append img (extent s a) behind inside).1
 
-  -- the blocks from a on are its own and those behind it
-  split : blocks_from s k a ≡ run b c ++ blocks_from s m n
-  split = rw (run_is, next) (gathered_step (extent s) s.next k m a fuel some)
-
-  pub anode_length : length (blocks_from s k a) ≡ c + length (blocks_from s m n)
-  anode_length = omega (arith, ap length split, length-append (run b c) (blocks_from s m n), length_run b c)
+  pub anode_length : length (extent s a ++ behind) ≡ c + length behind
+  anode_length = rw (← run_is) (omega (arith, length-append (run b c) behind, length_run b c))
 
   pub anode_put : (out new : List ℕ) (at place : ℕ) → new ≡ with_writes out at img (run b c) → place ≡ at + c * 514
-      → with_writes new place img (blocks_from s m n) ≡ with_writes out at img (blocks_from s k a)
+      → with_writes new place img behind ≡ with_writes out at img (extent s a ++ behind)
   anode_put out new at place is end =
-      writes_on out at img (run b c) anode_inside new place is (omega (arith, end, length_run b c)) (blocks_from s m n) ∙ ap (with_writes out at img) (sym split)
+      rw (← run_is) (writes_on out at img (run b c) anode_inside new place is (omega (arith, end, length_run b c)) behind)
 
 -- ---- the slots
 

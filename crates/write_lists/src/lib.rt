@@ -10,6 +10,7 @@ ghost use Rattle.write_lists.specs.Puts.{with_writes, held_by};
 
 use disk::{AnodeNo, BlockNo, block_part};
 use endian::{store, write16};
+use links::Links;
 use tables::entry;
 
 // Puts the write of block `y` at a place of the buffer, and gives the place behind it.
@@ -28,10 +29,8 @@ fn put_run(image: &[u8], first: BlockNo, count: u16, out: &mut [u8], at: usize) 
     ensures { (out.new ≡ with_writes out.old at image.now (run first.0 count)) × (result ≡ at + count * 514) }
 {
     let mut place = at;
-    let mut i: u16 = 0;
-    while i < count {
+    for i in 0..count {
         place = put_write(image, BlockNo(first.0 + i), out, place);
-        i += 1;
     }
     place
 }
@@ -52,16 +51,10 @@ pub fn put_chain(
     ensures { (out.new ≡ with_writes out.old at image.now (blocks_of (anodes_from counts.now firsts.now nexts.now) head.0)) × (result ≡ at + length (blocks_of (anodes_from counts.now firsts.now nexts.now) head.0) * 514) }
 {
     let mut place = at;
-    let mut a = head.0 as usize;
-    let mut fuel: usize = 3444;
-    while 0 < fuel {
-        if a == 0 {
-            return place;
-        }
-        let first = BlockNo(entry(firsts, a));
-        place = put_run(image, first, entry(counts, a), out, place);
-        a = entry(nexts, a) as usize;
-        fuel -= 1;
+    for a in Links::along(nexts, head) {
+        let first = BlockNo(entry(firsts, a.0 as usize));
+        let count = entry(counts, a.0 as usize);
+        place = put_run(image, first, count, out, place);
     }
     place
 }
@@ -84,10 +77,8 @@ pub fn put_slots(image: &[u8], slots: &[u16], out: &mut [u8], at: usize) -> usiz
     ensures { (out.new ≡ with_writes out.old at image.now (slot_blocks (slots_from slots.now) 42)) × (result ≡ at + length (slot_blocks (slots_from slots.now) 42) * 514) }
 {
     let mut place = at;
-    let mut k: usize = 0;
-    while k < 42 {
+    for k in 0..42 {
         place = put_slot_write(image, slots, k, out, place);
-        k += 1;
     }
     place
 }

@@ -1,8 +1,12 @@
-use native.Mathlib.Omega.{arith}
-use Rattle.anodes.specs.Loaded.{anodes_from}
+use Rattle.std.proofs.Common.{◌≡◌, arith}
+use Rattle.rules.specs.Chains.{run}
+use Rattle.byte_differences.specs.BytesCompared.{extents_of}
 use Rattle.byte_differences.proofs.Places.{entering_is}
 use Rattle.byte_differences.proofs.extent_start.Goals as goal
 
 pub returns : goal.returns
-unfolding anodes_from
-returns c = entering_is _ _ _ _ _ _ c.entry.ensures c.entry-2.ensures c.entry-3.ensures (omega arith) _ _ c.part-left.ensures
+unfolding extents_of
+returns c =
+    let g = c.args in
+    let own : extents_of g.counts.now g.firsts.now g.anode.0 ≡ run c.entry.result c.entry-2.result = rw (c.entry.ensures, c.entry-2.ensures) in
+    entering_is _ _ _ _ _ _ own (omega arith) _ c.part-left.ensures

@@ -1,4 +1,4 @@
-use Prim.Native.Nat.{◌*◌, ◌≤◌, ◌<◌, ◌-◌}
+use Prim.Native.Nat.{◌*◌, ◌≤◌, ◌<◌}
 use mathlib.Core.Path.{◌≡◌}
 use lib.ListN.{length, drop}
 use Rattle.chains.specs.Filling.{FilledBelow}
@@ -6,6 +6,3 @@ use Rattle.chains.proofs.fill_heads.Given as goal
 
 abbrev pub invariant-loop-k : goal.invariant-loop-k
 invariant-loop-k l = (0 < l.k) × (l.k ≤ 42) × (length l.heads ≡ length l.initial.heads) × (drop 3444 l.heads ≡ drop 3444 l.initial.heads) × FilledBelow l.heads l.nexts l.firsts (l.k * 82)
-
-abbrev pub decreases-loop-k : goal.decreases-loop-k
-decreases-loop-k l = 42 - l.k

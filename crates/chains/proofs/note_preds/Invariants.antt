@@ -1,4 +1,4 @@
-use Prim.Native.Nat.{◌*◌, ◌≤◌, ◌-◌}
+use Prim.Native.Nat.{◌*◌, ◌≤◌}
 use mathlib.Core.Path.{◌≡◌}
 use lib.ListN.{length}
 use Rattle.chains.specs.Predecessors.{NotedBelow}
@@ -6,6 +6,3 @@ use Rattle.chains.proofs.note_preds.Given as goal
 
 abbrev pub invariant-loop-k : goal.invariant-loop-k
 invariant-loop-k l = (l.k ≤ 42) × (length l.preds ≡ length l.initial.preds) × NotedBelow l.preds l.nexts (l.k * 82)
-
-abbrev pub decreases-loop-k : goal.decreases-loop-k
-decreases-loop-k l = 42 - l.k

@@ -1,4 +1,4 @@
-use Prim.Native.Nat.{◌≤◌, ◌-◌}
+use Prim.Native.Nat.{◌≤◌}
 use mathlib.Core.Path.{◌≡◌}
 use mathlib.Core.Bool.{false}
 use Rattle.rules.specs.Counting.{any_below}
@@ -7,6 +7,3 @@ use Rattle.chains.proofs.search_unmarked.Given as goal
 
 abbrev pub invariant-loop-a : goal.invariant-loop-a
 invariant-loop-a l = (l.a ≤ 3444) × (any_below (unmarked l.firsts l.marks) l.a ≡ false)
-
-abbrev pub decreases-loop-a : goal.decreases-loop-a
-decreases-loop-a l = 3444 - l.a

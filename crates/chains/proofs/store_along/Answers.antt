@@ -1,16 +1,15 @@
-use Prim.Native.Nat.{◌-◌}
-use mathlib.Core.Path.{sym, ◌∙◌}
-use native.Mathlib.Omega.{arith}
+use mathlib.Core.Path.{sym}
 use borrow.Author.Rules.{rules}
-use Rattle.chains.proofs.Storing.{stored-none, stored-end, stored_step}
+use Rattle.chains.proofs.Storing.{stored_in, stored_chain}
 use Rattle.chains.proofs.store_along.Goals as goal
 
-pub returns-then-at-eq0 : goal.returns-then-at-eq0
-returns-then-at-eq0 c = let l = c.loop-fuel in sym (stored-end _ _ l.fuel _ l.at c.if-at-eq0.true) ∙ l.invariant.1
+pub loop-a-init : goal.loop-a-init
+loop-a-init c = rw (c.into_iter-a-iterator.ensures.into_iter_gives, c.along-a-items.ensures) (search rules, sym (stored_chain _ _ 3444 _ _))
 
-pub loop-fuel-preserved : goal.loop-fuel-preserved
-loop-fuel-preserved c = let l = c.loop-fuel in
-    (search rules, rw (c.entry-at.ensures, c.set_entry.ensures) (sym (stored_step _ _ l.fuel (l.fuel - 1) l.at _ (omega arith) c.if-at-eq0.false) ∙ l.invariant.1))
+pub loop-a-preserved : goal.loop-a-preserved
+unfolding stored_in
+loop-a-preserved c = (search rules, rw c.set_entry.ensures (rw c.in-Some.ensures.steps at c.loop-a.invariant.1))
 
 pub returns : goal.returns
-returns c = let l = c.loop-fuel in sym (stored-none _ _ l.fuel _ l.at (omega arith)) ∙ l.invariant.1
+unfolding stored_in
+returns c = rw c.in-None.ensures.steps.0 at c.loop-a.invariant.1

@@ -1,11 +1,9 @@
-use Prim.Native.Nat.{◌-◌}
 use mathlib.Core.Path.{◌≡◌}
 use lib.ListN.{length}
+use Rattle.links.specs.Links.{anodes_left}
 use Rattle.chains.specs.Storing.{stored_along}
+use Rattle.chains.proofs.Storing.{stored_in}
 use Rattle.chains.proofs.store_along.Given as goal
 
-abbrev pub invariant-loop-fuel : goal.invariant-loop-fuel
-invariant-loop-fuel l = (length l.table ≡ length l.initial.table) × (stored_along l.fuel l.links l.table l.v l.at ≡ stored_along 3444 l.links l.initial.table l.v l.from)
-
-abbrev pub decreases-loop-fuel : goal.decreases-loop-fuel
-decreases-loop-fuel l = l.fuel
+abbrev pub invariant-loop-a : goal.invariant-loop-a
+invariant-loop-a l = (length l.table ≡ length l.initial.table) × (stored_in l.v (anodes_left l.a-iterator) l.table ≡ stored_along 3444 l.fn.links l.initial.table l.v l.fn.from.0)

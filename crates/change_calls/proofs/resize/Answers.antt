@@ -1,14 +1,15 @@
+use Rattle.std.proofs.lemmas.Result.{err_from_is_err_and}
 use Rattle.call_laws.specs.Opened.{opened, heads_long}
 use Rattle.call_laws.specs.Changed.{resize_answered, resize_refused}
 use borrow.Author.Rules.{rules}
 use Rattle.change_calls.proofs.resize.Goals as goal
 
 pub resize_named-requires : goal.resize_named-requires
-resize_named-requires c = let is = c.in-Accepted.is in
-    ((_, opened _ _ _ _ _ _ c.open_disk-c.ensures.outcome _ is _ _ _ _ _ c.open_disk-c.ensures.opened), heads_long _ _ _ _ _ _ c.open_disk-c.ensures.outcome _ is (search rules))
+resize_named-requires c = ((_, opened _ _ _ _ _ _ c.open.ensures.outcome _ c.in_ok-t.was _ _ _ _ _ c.open.ensures.opened), heads_long _ _ _ _ _ _ c.open.ensures.outcome _ c.in_ok-t.was (search rules))
 
-pub returns-in-Accepted : goal.returns-in-Accepted
-returns-in-Accepted c = resize_answered _ _ _ _ _ _ c.open_disk-c.ensures.outcome _ c.in-Accepted.is _ _ _ _ _ _ _ c.resize_named.ensures
+pub returns-in_err-t : goal.returns-in_err-t
+returns-in_err-t c = let p = err_from_is_err_and c.from_residual.result c.from_residual.ensures.1 in
+    rw (p.1, p.2) (resize_refused _ _ _ _ _ _ c.open.ensures.outcome _ c.in_err-t.was _ _ _)
 
-pub returns-in-Refused : goal.returns-in-Refused
-returns-in-Refused c = resize_refused _ _ _ _ _ _ c.open_disk-c.ensures.outcome _ c.in-Refused.is _ c.number.ensures _ _ _
+pub returns : goal.returns
+returns c = resize_answered _ _ _ _ _ _ c.open.ensures.outcome _ c.in_ok-t.was _ _ _ _ _ _ _ c.resize_named.ensures

@@ -1,7 +1,6 @@
-use Prim.Native.Nat.{ℕ, ◌-◌, ◌≤◌}
+use Prim.Native.Nat.{ℕ}
 use mathlib.Core.Path.{◌≡◌}
 use mathlib.Core.List.{List}
-use lib.ListN.{length}
 use Rattle.rules.specs.Anodes.{anodes_of}
 use Rattle.rules.specs.Walk.{reached_dirs}
 use Rattle.names.specs.Index.{Indexed}
@@ -12,8 +11,5 @@ use Rattle.comparing.proofs.WalkedTo.{WalkedTo}
 use Rattle.comparing.proofs.compare_walk.Given as goal
 
 abbrev pub invariant-loop-i : goal.invariant-loop-i
-invariant-loop-i l = (l.i ≤ l.dirs) × (length l.index ≡ length l.initial.index) × (length l.partners ≡ length l.initial.partners) × (length l.met ≡ length l.initial.met) × (length l.out ≡ length l.initial.out) × Indexed l.other l.index l.indexed
+invariant-loop-i l = Indexed l.other l.index l.indexed
     × ((parents : List ℕ) → queue_of l.queue parents l.dirs ≡ reached_dirs l.image (anodes_of l.image) → WalkedTo l.image l.other l.queue parents l.dirs l.i (pairs_of l.partners l.met) (handing_with l.out l.so_far) (handing_with l.initial.out l.initial.so_far))
-
-abbrev pub decreases-loop-i : goal.decreases-loop-i
-decreases-loop-i l = l.dirs - l.i

@@ -1,7 +1,7 @@
 use mathlib.Core.Path.{◌≡◌}
 use mathlib.Core.List.{List, ◌++◌}
-use Prim.Native.Nat.{ℕ, ◌+◌, ◌-◌, ◌≤◌}
-use lib.ListN.{length, drop}
+use Prim.Native.Nat.{ℕ, ◌+◌, ◌-◌}
+use lib.ListN.{drop}
 use Rattle.disk.specs.Blocks.{block_of}
 use Rattle.rules.specs.Counting.{gather}
 use Rattle.rules.specs.Chains.{run}
@@ -9,9 +9,4 @@ use Rattle.contents.specs.Copied.{filled}
 use Rattle.contents.proofs.copy_run.Given as goal
 
 abbrev pub invariant-loop-i : goal.invariant-loop-i
-invariant-loop-i l = (length l.out ≡ length l.initial.out)
-    × (l.i ≤ l.count)
-    × ((rest : List ℕ) → filled l.out l.cursor.done (drop l.cursor.skip (gather (block_of l.image) (run (l.first.0 + l.i) (l.count - l.i)) ++ rest)) ≡ filled l.initial.out l.initial.cursor.done (drop l.initial.cursor.skip (gather (block_of l.image) (run l.first.0 l.count) ++ rest)))
-
-abbrev pub decreases-loop-i : goal.decreases-loop-i
-decreases-loop-i l = l.count - l.i
+invariant-loop-i l = (rest : List ℕ) → filled l.out l.cursor.done (drop l.cursor.skip (gather (block_of l.image) (run (l.first.0 + l.i) (l.count - l.i)) ++ rest)) ≡ filled l.initial.out l.initial.cursor.done (drop l.initial.cursor.skip (gather (block_of l.image) (run l.first.0 l.count) ++ rest))

@@ -1,17 +1,12 @@
 use mathlib.Core.Path.{◌≡◌}
 use mathlib.Core.List.{List, ◌++◌}
-use Prim.Native.Nat.{ℕ, ◌+◌, ◌-◌, ◌≤◌}
-use lib.ListN.{length, drop}
+use Prim.Native.Nat.{ℕ, ◌+◌, ◌-◌}
+use lib.ListN.{drop}
 use Rattle.rules.specs.Chains.{run}
 use Rattle.laws.specs.Chains.{Inside}
 use Rattle.contents.specs.Written.{written_over}
 use Rattle.contents.proofs.write_run.Given as goal
 
 abbrev pub invariant-loop-i : goal.invariant-loop-i
-invariant-loop-i l = (length l.image ≡ length l.initial.image)
-    × (l.i ≤ l.count)
-    × Inside l.initial.image (run (l.first.0 + l.i) (l.count - l.i))
+invariant-loop-i l = Inside l.initial.image (run (l.first.0 + l.i) (l.count - l.i))
     × ((rest : List ℕ) → written_over l.image (run (l.first.0 + l.i) (l.count - l.i) ++ rest) l.cursor.skip (drop l.cursor.done l.bytes) ≡ written_over l.initial.image (run l.first.0 l.count ++ rest) l.initial.cursor.skip (drop l.initial.cursor.done l.bytes))
-
-abbrev pub decreases-loop-i : goal.decreases-loop-i
-decreases-loop-i l = l.count - l.i

@@ -1,21 +1,18 @@
-use Prim.Native.Nat.{◌-◌}
-use mathlib.Core.Path.{ap}
+use mathlib.Core.Path.{◌≡◌}
+use mathlib.Core.Logic.{inl}
+use Prim.Native.Nat.{ℕ, ◌≤◌}
 use native.Mathlib.Omega.{arith}
 use lib.ListN.{length, get_or}
-use Rattle.laws.specs.Chains.{chain-none, chain-end, chain_step}
+use Rattle.std.proofs.lemmas.Iterator.Consumers.{YieldsList-from_first, count_from_yields_List}
+use Rattle.rules.specs.Chains.{chain_of}
+use Rattle.laws.specs.Chains.{chain_short}
+use Rattle.links.specs.Links.{anodes_left}
 use Rattle.counterparts.proofs.chain_length.Goals as goal
 
-pub loop-fuel-init : goal.loop-fuel-init
-loop-fuel-init c = (omega arith, omega arith)
-
-pub returns-then-at-eq0 : goal.returns-then-at-eq0
-returns-then-at-eq0 c = let l = c.loop-fuel in
-    (omega (arith, ap length (chain-end (λ a. get_or c.args.nexts.now a 0) l.fuel l.at c.if-at-eq0.true)), omega arith)
-
-pub loop-fuel-preserved : goal.loop-fuel-preserved
-loop-fuel-preserved c = let l = c.loop-fuel in
-    rw c.entry-at.ensures (omega (arith, ap length (chain_step (λ a. get_or c.args.nexts.now a 0) l.fuel (l.fuel - 1) l.at (omega arith) c.if-at-eq0.false)), omega arith)
+pub count-requires-clause-fits : goal.count-requires-clause-fits
+count-requires-clause-fits c = let short : length (anodes_left c.along.result) ≤ 3444 = rw c.along.ensures (chain_short _ 3444 c.args.head.0) in inl (omega arith)
 
 pub returns : goal.returns
-returns c = let l = c.loop-fuel in
-    (omega (arith, ap length (chain-none (λ a. get_or c.args.nexts.now a 0) l.fuel l.at (omega arith))), omega arith)
+returns c = let next = λ (a : ℕ). get_or c.args.nexts.now a 0 in
+    let many : c.count.result ≡ length (chain_of next 3444 c.args.head.0) = count_from_yields_List _ _ c.count.ensures.ran (YieldsList-from_first (λ a. a.0) anodes_left _ c.along.ensures) in
+    (many, omega (arith, many, chain_short next 3444 c.args.head.0))

@@ -1,10 +1,9 @@
-use Prim.Native.Nat.{◌-◌}
-use Rattle.rules.specs.Walk.{entries_from, entries_in}
+use mathlib.Core.Path.{◌≡◌}
+use Rattle.disk.specs.Blocks.{block_of}
+use Rattle.rules.specs.Walk.{entries_in}
+use Rattle.laws.specs.Entries.{entries_left}
 use Rattle.counterparts.proofs.Laws.{Filling}
 use Rattle.counterparts.proofs.index_block.Given as goal
 
-abbrev pub invariant-loop-fuel : goal.invariant-loop-fuel
-invariant-loop-fuel l = Filling l.image l.initial.index l.index l.i l.n (entries_from l.fuel l.block l.b.0 l.at) (entries_in l.image l.b.0)
-
-abbrev pub decreases-loop-fuel : goal.decreases-loop-fuel
-decreases-loop-fuel l = l.fuel
+abbrev pub invariant-loop-item : goal.invariant-loop-item
+invariant-loop-item l = (l.item-iterator.block.now ≡ block_of l.image l.b.0) × Filling l.image l.initial.index l.index l.fn.i l.n (entries_left l.b.0 l.item-iterator) (entries_in l.image l.b.0)

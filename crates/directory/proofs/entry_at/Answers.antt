@@ -16,12 +16,12 @@ pub returns-then-not-entry_ok : goal.returns-then-not-entry_ok
 unfolding walked_at
 returns-then-not-entry_ok c = rw (ne_eqb _ _ c.if-block-at-eq0.false, sym c.entry_ok.ensures ∙ c.if-not-entry_ok.true)
 
-pub returns-in_default : goal.returns-in_default
+pub returns-in-Ok : goal.returns-in-Ok
 unfolding walked_at
-returns-in_default c = let kind-left : let g = c.args in walked_at g.block.now g.at ≡ walked_kind c.kind_of-read.result (entry_in g.block.now g.at) = rw (ne_eqb _ _ c.if-block-at-eq0.false, sym c.entry_ok.ensures ∙ c.if-not-entry_ok.false, ← c.read8.ensures, ← c.kind_of-read.ensures) in
-    sym (kind-left ∙ rw c.in_default.is)
+returns-in-Ok c = let kind-left : let g = c.args in walked_at g.block.now g.at ≡ walked_kind c.try_from.result (entry_in g.block.now g.at) = rw (ne_eqb _ _ c.if-block-at-eq0.false, sym c.entry_ok.ensures ∙ c.if-not-entry_ok.false, ← c.read8.ensures, ← c.try_from.ensures) in
+    sym (kind-left ∙ rw (c.in-Ok.is, ← c.entry_in.ensures))
 
-pub returns : goal.returns
+pub returns-in-Err : goal.returns-in-Err
 unfolding walked_at
-returns c = let kind-left : let g = c.args in walked_at g.block.now g.at ≡ walked_kind c.kind_of-read.result (entry_in g.block.now g.at) = rw (ne_eqb _ _ c.if-block-at-eq0.false, sym c.entry_ok.ensures ∙ c.if-not-entry_ok.false, ← c.read8.ensures, ← c.kind_of-read.ensures) in
-    sym (kind-left ∙ rw (c.in-Is.is, ← c.entry_in.ensures))
+returns-in-Err c = let kind-left : let g = c.args in walked_at g.block.now g.at ≡ walked_kind c.try_from.result (entry_in g.block.now g.at) = rw (ne_eqb _ _ c.if-block-at-eq0.false, sym c.entry_ok.ensures ∙ c.if-not-entry_ok.false, ← c.read8.ensures, ← c.try_from.ensures) in
+    sym (kind-left ∙ rw c.in-Err.is)

@@ -31,30 +31,18 @@ unfolding entry_length
 overflow_sub-at c = let k = c in omega (arith, k.requires, k.entry_len-len.ensures)
 
 pub returns : goal.returns
-returns c = let c13 = c in
-    let c12 = c13 in
-    let c11 = c12 in
-    let c10 = c11 in
-    let c9 = c10 in
-    let c8 = c9 in
-    let c7 = c8 in
-    let c6 = c7 in
-    let c5 = c6 in
-    let c4 = c5 in
-    let c3 = c4 in
-    let c2 = c3 in
-    let c1 = c2 in
-    put_entry_stores _ _ _ _ _ _ _ c1.entry_len-len.ensures c2.type_of.ensures _ _ _ _ _ _ _ _ _ _ _ _ _
-    c1.write8.ensures
-    c2.write8-2.ensures
-    c3.write16.ensures
-    c4.write32.ensures
-    c5.write16-2.ensures
-    c6.write16-3.ensures
-    c7.write16-4.ensures
-    c8.write8-3.ensures
-    c9.write8-4.ensures
-    c10.store.ensures
-    c11.write8-5.ensures
-    c12.store-2.ensures
-    c13.clear.ensures
+returns c =
+    put_entry_stores _ _ _ _ _ _ _ c.entry_len-len.ensures c.from.ensures _ _ _ _ _ _ _ _ _ _ _ _ _
+    c.write8.ensures
+    c.write8-2.ensures
+    c.write16.ensures
+    c.write32.ensures
+    c.write16-2.ensures
+    c.write16-3.ensures
+    c.write16-4.ensures
+    c.write8-3.ensures
+    c.write8-4.ensures
+    c.store.ensures
+    c.write8-5.ensures
+    c.store-2.ensures
+    c.clear.ensures

@@ -1,10 +1,7 @@
 use mathlib.Core.Path.{◌≡◌}
 use Prim.Native.Nat.{◌+◌, ◌*◌, ◌-◌, ◌≤◌}
-use Rattle.rules.specs.Changes.{end_from}
+use Rattle.rules.specs.Changes.{end_from, entries_end}
 use Rattle.edits.proofs.entries_end.Given as goal
 
-abbrev pub invariant-loop-fuel : goal.invariant-loop-fuel
-invariant-loop-fuel l = (l.at + l.fuel * 255 ≤ l.initial.at + l.initial.fuel * 255) × (end_from l.fuel l.block l.at ≡ end_from l.initial.fuel l.block l.initial.at)
-
-abbrev pub decreases-loop-fuel : goal.decreases-loop-fuel
-decreases-loop-fuel l = l.fuel
+abbrev pub invariant-loop : goal.invariant-loop
+invariant-loop l = (l.at ≤ 16 + l.counter * 255) × (end_from (28 - l.counter) l.block l.at ≡ entries_end l.block)

@@ -1,32 +1,36 @@
-use lib.ListN.{get_or}
-use mathlib.Core.Path.{refl, ◌∙◌}
-use Prim.Native.Nat.{◌-◌}
-use native.Mathlib.Omega.{arith}
-use Rattle.laws.specs.Chains.{gathered_none, gathered_end}
-use Rattle.edits.proofs.Along.{firsts_along, room-none, room_step, room_whole}
+use mathlib.Core.Path.{◌≡◌, refl, sym, ◌∙◌}
+use mathlib.Core.Bool.{false≢true, true≢false}
+use Rattle.std.specs.Prelude.{ℕ, true, false, is_some, Option, Some, None}
+use Rattle.std.proofs.Math.Option as ghost
+use Rattle.rules.specs.Changes.{first_room}
+use Rattle.rules.specs.Counting.{gather}
+use Rattle.edits.specs.Entries.{or_rest, room_of}
+use Rattle.edits.proofs.Along.{room_whole}
 use Rattle.edits.proofs.first_room.Goals as goal
 
-pub loop-fuel-init : goal.loop-fuel-init
-loop-fuel-init c = refl
+-- where a room was found, what the blocks behind have does not matter; and where none was, only that
+found_here : (r : Option ℕ) (rest : ghost.Option ℕ) → is_some r ≡ true → room_of r ≡ or_rest r rest
+found_here (Some start) rest e = refl
+found_here None rest e = absurd (false≢true e)
 
-pub returns-then-at-eq0 : goal.returns-then-at-eq0
-unfolding firsts_along
-returns-then-at-eq0 c = let l = c.loop-fuel in
-    λ counts one. room-none _ _ _ (gathered_end _ _ l.fuel _ c.if-at-eq0.true) ∙ l.invariant ∙ room_whole _ _ _ _ counts _ one
+found_later : (r : Option ℕ) (rest : ghost.Option ℕ) → is_some r ≡ false → rest ≡ or_rest r rest
+found_later None rest e = refl
+found_later (Some start) rest e = absurd (true≢false e)
+
+pub loop-a-init : goal.loop-a-init
+loop-a-init c = rw (c.into_iter-a-iterator.ensures.into_iter_gives, c.along-a-items.ensures)
 
 pub returns : goal.returns
-unfolding firsts_along
-returns c = let l = c.loop-fuel in
-    λ counts one. room-none _ _ _ (gathered_none _ _ l.fuel _ (omega arith)) ∙ l.invariant ∙ room_whole _ _ _ _ counts _ one
+unfolding gather first_room
+returns c = let l = c.loop-a in
+    λ counts one. (rw c.in-None.ensures.steps.0 at l.invariant) ∙ room_whole _ _ counts _ _ _ one
 
-pub returns-in-At : goal.returns-in-At
-returns-in-At c = let x = c.args in
-    let l = c.loop-fuel in
-    let rest = firsts_along x.firsts.now x.nexts.now (l.fuel - 1) (get_or x.nexts.now l.at 0) in
-    λ counts one. rw c.in-At.is (c.in-At.ensures rest ∙ room_step _ _ _ _ _ (l.fuel - 1) _ _ (omega arith) c.if-at-eq0.false c.entry.ensures ∙ l.invariant ∙ room_whole _ _ _ _ counts _ one)
+pub returns-then-is_some : goal.returns-then-is_some
+unfolding gather
+returns-then-is_some c =
+    λ counts one. found_here _ _ (sym c.if-is_some.ensures) ∙ c.room_in-found.ensures _ ∙ (rw (c.in-Some.ensures.steps, ← c.entry.ensures) at c.loop-a.invariant) ∙ room_whole _ _ counts _ _ _ one
 
-pub loop-fuel-preserved : goal.loop-fuel-preserved
-loop-fuel-preserved c = let x = c.args in
-    let l = c.loop-fuel in
-    let rest = firsts_along x.firsts.now x.nexts.now (l.fuel - 1) (get_or x.nexts.now l.at 0) in
-    rw c.entry-at.ensures (c.in_default.ensures rest ∙ room_step _ _ _ _ _ (l.fuel - 1) _ _ (omega arith) c.if-at-eq0.false c.entry.ensures ∙ l.invariant)
+pub loop-a-preserved : goal.loop-a-preserved
+unfolding gather
+loop-a-preserved c =
+    found_later _ _ (sym c.if-is_some.ensures) ∙ c.room_in-found.ensures _ ∙ rw (c.in-Some.ensures.steps, ← c.entry.ensures) at c.loop-a.invariant

@@ -1,7 +1,7 @@
 use Rattle.rules.specs.Anodes.{Anodes, store_changed, with_anodes}
 use Rattle.edits.proofs.Blocks.{store_changed-none, run-kept}
 use mathlib.Core.Path.{◌≡◌, sym, ap, ◌∙◌}
-use Prim.Native.Nat.{◌-◌, ◌+◌, ◌*◌}
+use Prim.Native.Nat.{◌+◌, ◌*◌}
 use native.Mathlib.Omega.{arith}
 use Rattle.anodes.specs.Loaded.{anodes_from}
 use borrow.Author.Rules.{rules}

@@ -1,6 +1,6 @@
 use Rattle.edits.proofs.Blocks.{anode_kept, anode_stored}
 use mathlib.Core.Path.{◌≡◌, ◌∙◌}
-use Prim.Native.Nat.{◌-◌, ◌+◌}
+use Prim.Native.Nat.{◌+◌}
 use native.Mathlib.Omega.{arith}
 use borrow.Author.Rules.{rules}
 use Rattle.edits.proofs.store_run.Goals as goal

@@ -1,23 +1,9 @@
-use mathlib.Core.Path.{◌≡◌, sym, ◌∙◌}
-use Prim.Native.Nat.{◌-◌}
-use native.Mathlib.Omega.{arith}
-use borrow.Author.Rules.{rules}
-use lib.ListN.{length-set}
-use Rattle.endian.proofs.Laws.{cleared-out, cleared-none, cleared_step}
+use Rattle.std.proofs.Common.{arith, rules, sym}
+use Rattle.endian.proofs.Laws.{cleared-out, cleared-part}
 use Rattle.endian.proofs.clear.Goals as goal
 
-pub returns-then-len-at : goal.returns-then-len-at
-returns-then-len-at c = sym (cleared-out _ _ _ c.if-len-at.true)
+pub returns-then-at-len : goal.returns-then-at-len
+returns-then-at-len c = cleared-part _ _ _ _ _ (search rules) c.min-k.ensures (omega arith)
 
-pub returns-then-len-j : goal.returns-then-len-j
-returns-then-len-j c = let l = c.loop-left in
-    sym (cleared-out l.bytes l.j l.left (omega arith)) ∙ l.invariant.1
-
-pub loop-left-preserved : goal.loop-left-preserved
-loop-left-preserved c = let l = c.loop-left in
-    (simp length-set (search rules), sym (cleared_step l.bytes l.j l.left (l.left - 1) (omega arith)) ∙ l.invariant.1)
-
-pub returns : goal.returns
-returns c = let l = c.loop-left in
-    let e : l.left ≡ 0 = omega arith in
-    sym (cleared-none _ _) ∙ rw e at l.invariant.1
+pub returns-else-at-len : goal.returns-else-at-len
+returns-else-at-len c = sym (cleared-out _ _ _ c.if-at-len.false)

@@ -1,11 +1,11 @@
-use mathlib.Core.Path.{sym}
+use Rattle.std.proofs.Common.{sym}
 use Rattle.endian.proofs.Laws.{put32-out}
 use Rattle.endian.specs.Bytes.{put32}
 use Rattle.endian.proofs.write32.Goals as goal
 
-pub returns-then-bytes-at : goal.returns-then-bytes-at
-returns-then-bytes-at c = sym (put32-out _ _ _ c.if-bytes-at.true)
-
-pub returns : goal.returns
+pub returns-then-at-bytes : goal.returns-then-at-bytes
 unfolding put32
-returns c = rw (c.write16-2.ensures, c.write16.ensures)
+returns-then-at-bytes c = rw (c.write16-then-at-bytes.ensures, c.write16.ensures)
+
+pub returns-else-at-bytes : goal.returns-else-at-bytes
+returns-else-at-bytes c = sym (put32-out _ _ _ c.if-at-bytes.false)

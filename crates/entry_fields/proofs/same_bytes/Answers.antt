@@ -1,18 +1,19 @@
-use mathlib.Core.Path.{sym, ◌∙◌}
-use Prim.Native.Nat.{◌-◌}
-use native.Mathlib.Omega.{arith}
-use Rattle.entry_fields.proofs.Laws.{same_length, same_end, same_not, same_step}
-use borrow.Author.Rules.{rules}
+use mathlib.Core.Path.{◌≡◌, refl, ap, ◌∙◌}
+use mathlib.Core.Bool.{Bool, ◌&&◌}
+use mathlib.Core.List.{List, [], ◌∷◌}
+use Prim.Native.Nat.{ℕ}
+use lib.Dec.{eqb}
+use lib.Pointwise.{pointwise}
+use Rattle.rules.specs.Counting.{same_bytes}
 use Rattle.entry_fields.proofs.same_bytes.Goals as goal
 
-pub returns-then-one-other : goal.returns-then-one-other
-returns-then-one-other c = sym (same_length _ _ c.if-one-other.true)
-
-pub returns-then-one-i : goal.returns-then-one-i
-returns-then-one-i c = sym (same_not _ _ _ c.if-one-other.false c.loop-i-test.true c.if-one-i.true) ∙ c.loop-i.invariant.1
-
-pub loop-i-preserved : goal.loop-i-preserved
-loop-i-preserved c = (search rules, sym (same_step _ _ _ c.if-one-other.false c.loop-i-test.true c.if-one-i.false) ∙ c.loop-i.invariant.1)
+-- two lists are compared number by number
+one_by_one : (l m : List ℕ) → pointwise eqb l m ≡ same_bytes l m
+unfolding same_bytes
+one_by_one [] [] = refl
+one_by_one [] (y ∷ m) = refl
+one_by_one (x ∷ l) [] = refl
+one_by_one (x ∷ l) (y ∷ m) = ap (λ (t : Bool). eqb x y && t) (one_by_one l m)
 
 pub returns : goal.returns
-returns c = sym (same_end c.args.one.now c.args.other.now c.loop-i.i c.if-one-other.false (omega arith)) ∙ c.loop-i.invariant.1
+returns c = c.eq.ensures ∙ one_by_one c.args.one.now c.args.other.now

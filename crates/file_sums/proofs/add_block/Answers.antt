@@ -1,40 +1,34 @@
-use Rattle.file_sums.proofs.Laws.{sums_none, sums_found, within_none, within_join, within_wider, fit_within}
-use Prim.Native.Nat.{ℕ, ◌+◌, ◌-◌, ◌*◌}
-use mathlib.Core.Path.{◌≡◌, refl, sym, ◌∙◌}
+use Prim.Native.Nat.{◌-◌}
+use mathlib.Core.Path.{◌≡◌, sym, ◌∙◌}
 use native.Mathlib.Omega.{arith}
-use Rattle.directory.specs.Entries.{name_in}
-use Rattle.rules.specs.Walk.{with_rest, entries_from, entries_in}
-use Rattle.laws.specs.Entries.{entries_none, block_whole, entries_read}
-use Rattle.lookup.proofs.Laws.{unbroken_no_fault, unbroken_rest}
-use Rattle.file_sums.specs.Sums.{sums_with}
-use borrow.Author.Rules.{rules}
+use Rattle.disk.specs.Blocks.{block_of}
+use Rattle.laws.specs.Entries.{reads_none, reads_more}
+use Rattle.lookup.proofs.Laws.{reader_whole, reads_same, unbroken_no_fault, unbroken_rest}
+use Rattle.file_sums.proofs.Laws.{sums_none, sums_first, within_none, within_join, within_wider}
 use Rattle.file_sums.proofs.add_block.Goals as goal
 
-pub loop-fuel-init : goal.loop-fuel-init
-loop-fuel-init c = (search rules, within_none _, (c.args.b.0, rw (block_whole _ _ _ c.block_part-block.ensures) c.requires.0), λ y. refl)
+pub loop-item-init : goal.loop-item-init
+loop-item-init c = rw c.into_iter-item-iterator.ensures.into_iter_gives
+    (let r = c.of-item-items in
+    let same : r.result.block.now ≡ block_of c.args.image.now c.args.b.0 = rw r.ensures.0 c.block_part.ensures in
+    let w = reader_whole _ _ r.result same r.ensures.1 r.ensures.2 in
+    (same, rw w c.requires.0, omega (arith, r.ensures.2), rw r.ensures.2 (within_none _), rw w))
 
-pub returns-in-End : goal.returns-in-End
-returns-in-End c = let read : let l = c.loop-fuel in let block = c.block_part-block.result.now in (y : ℕ) → entries_from l.fuel block y l.at ≡ with_rest c.read_entry-read.result.walked (name_in block l.at) (y * 512 + l.at) (entries_from (l.fuel - 1) block y c.read_entry-read.result.after) = λ y. entries_read _ _ _ c.read_entry-read.ensures y c.loop-fuel.fuel (c.loop-fuel.fuel - 1) (omega arith) in
-    let left : let l = c.loop-fuel in let a = c.args in sums_with a.starts.now l.sums (entries_from l.fuel c.block_part-block.result.now a.b.0 l.at) ≡ sums_with a.starts.now a.t (entries_in a.image.now a.b.0) = rw (block_whole _ _ _ c.block_part-block.ensures) at (c.loop-fuel.invariant.3 c.args.b.0) in
-    (sym (sums_none _ _ _ (read _ ∙ rw c.in-End.is)) ∙ left, within_wider _ _ (28 - c.loop-fuel.fuel) 28 (omega arith) c.loop-fuel.invariant.1)
+pub returns-in_default : goal.returns-in_default
+returns-in_default c = let l = c.loop-item in
+    absurd (unbroken_no_fault _ _ l.item-iterator c.next.new.self l.invariant.0 _ (rw c.in_default.is at c.in-Some.ensures.steps) l.invariant.1)
 
-pub returns-in-Fault : goal.returns-in-Fault
-returns-in-Fault c = let read : let l = c.loop-fuel in let block = c.block_part-block.result.now in (y : ℕ) → entries_from l.fuel block y l.at ≡ with_rest c.read_entry-read.result.walked (name_in block l.at) (y * 512 + l.at) (entries_from (l.fuel - 1) block y c.read_entry-read.result.after) = λ y. entries_read _ _ _ c.read_entry-read.ensures y c.loop-fuel.fuel (c.loop-fuel.fuel - 1) (omega arith) in
-    absurd (unbroken_no_fault _ _ _ _ _ c.in-Fault.is (rw read at c.loop-fuel.invariant.2.1))
-
-pub add_entry-sums-requires : goal.add_entry-sums-requires
-add_entry-sums-requires c = fit_within _ _ (28 - c.loop-fuel.fuel) 28 1 (omega arith) c.requires.1 c.loop-fuel.invariant.1
-
-pub loop-fuel-preserved : goal.loop-fuel-preserved
-loop-fuel-preserved c = let read : let l = c.loop-fuel in let block = c.block_part-block.result.now in (y : ℕ) → entries_from l.fuel block y l.at ≡ with_rest c.read_entry-read.result.walked (name_in block l.at) (y * 512 + l.at) (entries_from (l.fuel - 1) block y c.read_entry-read.result.after) = λ y. entries_read _ _ _ c.read_entry-read.ensures y c.loop-fuel.fuel (c.loop-fuel.fuel - 1) (omega arith) in
-    let l = c.loop-fuel in
-    let step = read in (
-      search rules,
-      within_join _ _ _ (28 - l.fuel) 1 _ (omega arith) l.invariant.1 c.add_entry-sums.ensures.1,
-      (l.invariant.2.0, unbroken_rest _ _ _ _ _ c.in-Found.is (rw step at l.invariant.2.1)),
-      λ y. sums_found _ _ _ _ _ _ _ _ c.in-Found.is (c.add_entry-sums.ensures.0 _ _) ∙ (rw step at (l.invariant.3 y)),
+pub loop-item-preserved : goal.loop-item-preserved
+loop-item-preserved c = let l = c.loop-item in
+    let y = c.args.b.0 in
+    let read = rw c.in-Ok.is at c.in-Some.ensures.steps in (
+      reads_same _ y _ _ l.invariant.0 _ read,
+      unbroken_rest _ y _ _ l.invariant.0 _ read l.invariant.1,
+      omega (arith, read.may),
+      within_join _ _ _ (28 - l.item-iterator.left) 1 _ (omega (arith, read.may)) l.invariant.3 c.add_entry-sums.ensures.1,
+      sums_first _ _ _ _ _ _ (reads_more y _ _ _ read) (c.add_entry-sums.ensures.0 _ _) ∙ l.invariant.4,
     )
 
 pub returns : goal.returns
-returns c = let left : let l = c.loop-fuel in let a = c.args in sums_with a.starts.now l.sums (entries_from l.fuel c.block_part-block.result.now a.b.0 l.at) ≡ sums_with a.starts.now a.t (entries_in a.image.now a.b.0) = rw (block_whole _ _ _ c.block_part-block.ensures) at (c.loop-fuel.invariant.3 c.args.b.0) in
-    (sym (sums_none _ _ _ (entries_none _ _ c.loop-fuel.fuel _ (omega arith))) ∙ left, within_wider _ _ (28 - c.loop-fuel.fuel) 28 (omega arith) c.loop-fuel.invariant.1)
+returns c = let l = c.loop-item in
+    (sym (sums_none _ _ _ (reads_none _ l.item-iterator c.next.new.self c.in-None.ensures.steps)) ∙ l.invariant.4, within_wider _ _ (28 - l.item-iterator.left) 28 (omega arith) l.invariant.3)

@@ -2,9 +2,6 @@ use native.Mathlib.Omega.{arith}
 use Rattle.file_sums.proofs.Laws.{entry-file, entry_directory, within_none, within_wider, within_file}
 use Rattle.file_sums.proofs.add_entry.Goals as goal
 
-pub overflow_add-result : goal.overflow_add-result
-overflow_add-result c = omega (arith, c.requires.bytes, c.file_bytes.ensures)
-
 pub returns-in-File : goal.returns-in-File
 returns-in-File c = (λ name start. entry-file _ c.args.e name start _ c.in-File.is _ _ c.file_bytes.ensures c.one_if_many.ensures.0, within_file _ _ _ (omega (arith, c.file_bytes.ensures)) c.one_if_many.ensures.1)
 

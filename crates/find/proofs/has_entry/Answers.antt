@@ -1,16 +1,18 @@
-use mathlib.Core.Path.{refl}
+use mathlib.Core.Path.{sym, ap, ◌∙◌}
+use Rattle.std.specs.Prelude.{Ok}
+use Rattle.rules.specs.Walk.{entries_from}
 use Rattle.rules.specs.Lookup.{nth}
-use Rattle.laws.specs.Entries.{entries_read}
+use Rattle.laws.specs.Entries.{entries_more, entries_end_lem}
 use Rattle.find.proofs.has_entry.Goals as goal
 
-pub returns-in-Found : goal.returns-in-Found
+pub returns-in-Ok-Some : goal.returns-in-Ok-Some
 unfolding nth
-returns-in-Found c = λ y. rw (entries_read _ _ _ c.read_entry-read.ensures y 28 27 refl, c.in-Found.is)
+returns-in-Ok-Some c = let w = c.in-Ok-Some in λ y. rw (entries_more _ y 27 16 _ (sym c.entry_at.ensures ∙ w.is ∙ ap Ok w.field-0-is))
 
-pub returns-in-End : goal.returns-in-End
+pub returns-in-Ok-None : goal.returns-in-Ok-None
 unfolding nth
-returns-in-End c = λ y. rw (entries_read _ _ _ c.read_entry-read.ensures y 28 27 refl, c.in-End.is)
+returns-in-Ok-None c = let w = c.in-Ok-None in λ y. rw (entries_end_lem _ y 28 16 (sym c.entry_at.ensures ∙ w.is ∙ ap Ok w.field-0-is))
 
-pub returns-in-Fault : goal.returns-in-Fault
-unfolding nth
-returns-in-Fault c = λ y. rw (entries_read _ _ _ c.read_entry-read.ensures y 28 27 refl, c.in-Fault.is)
+pub returns-in-Err : goal.returns-in-Err
+unfolding entries_from nth
+returns-in-Err c = λ y. rw (← c.entry_at.ensures, c.in-Err.is)

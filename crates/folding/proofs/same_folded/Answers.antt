@@ -1,19 +1,17 @@
-use mathlib.Core.Path.{sym, ◌∙◌}
-use Prim.Native.Nat.{◌-◌}
-use native.Mathlib.Omega.{arith}
-use Rattle.folding.proofs.Laws.{same_length, same_end, same_not, same_step}
-use borrow.Author.Rules.{rules}
+use Rattle.std.proofs.Common.{◌≡◌, Bool, List, ℕ, ◌↔◌, IsTrue}
+use Rattle.rules.specs.Counting.{same_bytes}
+use Rattle.rules.specs.Folding.{folded}
+use Rattle.laws.specs.Apart.{same_name, name_same}
+use Rattle.laws.specs.Tests.{T-same, T_true}
+use Rattle.folding.proofs.Laws.{lower_folded}
 use Rattle.folding.proofs.same_folded.Goals as goal
 
-pub returns-then-one-other : goal.returns-then-one-other
-returns-then-one-other c = sym (same_length _ _ c.if-one-other.true)
-
-pub returns-then-fold : goal.returns-then-fold
-returns-then-fold c = sym (same_not _ _ _ c.if-one-other.false c.loop-i-test.true (λ e. c.if-fold.true (c.fold.ensures ∙ e ∙ sym c.fold-in-loop-i.ensures))) ∙ c.loop-i.invariant.1
-
-pub loop-i-preserved : goal.loop-i-preserved
-loop-i-preserved c = let e = sym c.fold.ensures ∙ c.if-fold.false ∙ c.fold-in-loop-i.ensures in
-    (search rules, sym (same_step _ _ _ c.if-one-other.false c.loop-i-test.true e) ∙ c.loop-i.invariant.1)
+-- a test that names are equal says what `same_bytes` says
+same_test : (t : Bool) (u v : List ℕ) → (IsTrue t ↔ (u ≡ v)) → t ≡ same_bytes u v
+same_test t u v h = T-same t (same_bytes u v) (λ a. rw (h.0 (T_true t a)) (name_same v)) (λ a. rw (h.1 (same_name u v a)) tt)
 
 pub returns : goal.returns
-returns c = sym (same_end c.args.one.now c.args.other.now c.loop-i.i c.if-one-other.false (omega arith)) ∙ c.loop-i.invariant.1
+returns c =
+    let g = c.args in
+    let test : IsTrue c.eq_ignore_ascii_case.result ↔ (folded g.one.now ≡ folded g.other.now) = rw (← lower_folded g.one.now, ← lower_folded g.other.now) c.eq_ignore_ascii_case.ensures.test in
+    same_test _ _ _ test

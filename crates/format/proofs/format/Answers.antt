@@ -7,12 +7,12 @@ use Rattle.format.proofs.format.Goals as goal
 
 pub returns-then-wrong_size : goal.returns-then-wrong_size
 unfolding format_outcome format_answer done_or
-returns-then-wrong_size c = rw (sym c.wrong_size.ensures ∙ c.if-wrong_size.true, c.number.ensures)
+returns-then-wrong_size c = rw (sym c.wrong_size.ensures ∙ c.if-wrong_size.true)
 
 pub returns-then-wrong_format : goal.returns-then-wrong_format
 unfolding format_outcome format_answer done_or
 returns-then-wrong_format c = let right_size : wrong_size c.args.image.now ≡ false = sym c.wrong_size.ensures ∙ c.if-wrong_size.false in
-    rw (right_size, sym c.wrong_format.ensures ∙ c.if-wrong_format.true, c.number-then-wrong_format.ensures)
+    rw (right_size, sym c.wrong_format.ensures ∙ c.if-wrong_format.true)
 
 pub make-requires : goal.make-requires
 make-requires c = let right_size : wrong_size c.args.image.now ≡ false = sym c.wrong_size.ensures ∙ c.if-wrong_size.false in

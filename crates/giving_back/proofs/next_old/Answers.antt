@@ -1,7 +1,5 @@
 use mathlib.Core.Path.{refl, sym, ◌∙◌}
-use Prim.Native.Nat.{◌-◌}
 use native.Mathlib.Omega.{arith}
-use Rattle.giving_back.specs.OldTable.{is_old}
 use Rattle.giving_back.proofs.OldTable.{search_past, search-found, search-none}
 use Rattle.giving_back.proofs.next_old.Goals as goal
 

@@ -1,21 +1,13 @@
-use Prim.Native.Nat.{◌-◌}
-use mathlib.Core.Path.{sym, ◌∙◌}
-use native.Mathlib.Omega.{arith}
+use mathlib.Core.Path.{refl}
+use lib.Dec.{eqb}
+use borrow.Author.Rules.{rules}
+use Rattle.std.proofs.Common.{tests}
+use Rattle.std.proofs.lemmas.Iterator.{YieldsList-from_range}
+use Rattle.std.proofs.lemmas.Iterator.Search.{find_from_yields_List}
 use Rattle.anodes.specs.Loaded.{slots_from}
-use Rattle.growing.proofs.Growing.{used_more, empty_here, empty_none}
+use Rattle.growing.proofs.Growing.{empty_first}
 use Rattle.growing.proofs.empty_slot.Goals as goal
-
-pub loop-k-init : goal.loop-k-init
-loop-k-init c = (omega arith, λ j l. absurd (omega arith))
-
-pub returns-then-entry-eq0 : goal.returns-then-entry-eq0
-unfolding slots_from
-returns-then-entry-eq0 c = empty_here (slots_from c.args.slots.now) c.loop-k.k c.loop-k-test.true c.loop-k.invariant.1 (sym c.entry.ensures ∙ c.if-entry-eq0.true)
-
-pub loop-k-preserved : goal.loop-k-preserved
-unfolding slots_from
-loop-k-preserved c = (omega (arith, c.loop-k-test.true), used_more (slots_from c.args.slots.now) c.loop-k.k c.loop-k.invariant.1 (λ z. c.if-entry-eq0.false (c.entry.ensures ∙ z)))
 
 pub returns : goal.returns
 unfolding slots_from
-returns c = empty_none (slots_from c.args.slots.now) (λ j l. c.loop-k.invariant.1 j (omega (arith, c.loop-k-test.false, l)))
+returns c = empty_first (slots_from c.args.slots.now) c.find.result (find_from_yields_List (λ k. eqb (slots_from c.args.slots.now k) 0) _ _ c.find.result c.find.ensures.ran (YieldsList-from_range 0 42 42 refl refl) (λ x b q k. search (rules, tests)))

@@ -1,7 +1,4 @@
-use borrow.Author.Rules.{rules}
 use mathlib.Core.Path.{◌≡◌, sym, ◌∙◌}
-use mathlib.Core.Bool.{false}
-use Prim.Native.Nat.{◌-◌}
 use native.Mathlib.Omega.{arith}
 use borrow.Author.Tests.{ne_eqb, eq-eqb}
 use Rattle.rules.specs.Counting.{any_below}
@@ -14,7 +11,7 @@ unfolding wrong_slots
 returns-then-first-eq0 c = rw (← c.slot_of-first.ensures, eq-eqb _ _ c.if-first-eq0.true)
 
 pub loop-s-init : goal.loop-s-init
-loop-s-init c = (search rules, any_below-none _)
+loop-s-init c = any_below-none _
 
 pub returns-then-wrong_slot : goal.returns-then-wrong_slot
 unfolding wrong_slots
@@ -22,10 +19,10 @@ returns-then-wrong_slot c = let slots-left : let i = c.args.image.now in wrong_s
     sym (slots-left ∙ any_below_hit _ _ 42 c.loop-s-test.true (sym c.wrong_slot.ensures ∙ c.if-wrong_slot.true))
 
 pub loop-s-preserved : goal.loop-s-preserved
-loop-s-preserved c = (search rules, any_below_more _ _ c.loop-s.invariant.1 (sym c.wrong_slot.ensures ∙ c.if-wrong_slot.false))
+loop-s-preserved c = any_below_more _ _ c.loop-s.invariant (sym c.wrong_slot.ensures ∙ c.if-wrong_slot.false)
 
 pub returns : goal.returns
 unfolding wrong_slots
 returns c = let slots-left : let i = c.args.image.now in wrong_slots i ≡ any_below (wrong_slot i) 42 = rw (← c.slot_of-first.ensures, ne_eqb _ _ c.if-first-eq0.false) in
     let e : c.loop-s.s ≡ 42 = omega arith in
-    sym (slots-left ∙ rw e at c.loop-s.invariant.1)
+    sym (slots-left ∙ rw e at c.loop-s.invariant)

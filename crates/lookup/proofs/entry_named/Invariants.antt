@@ -1,13 +1,13 @@
 use mathlib.Core.Path.{◌≡◌}
-use Prim.Native.Nat.{◌-◌}
+use lib.ListN.{get_or}
+use Rattle.rules.specs.Anodes.{limit}
+use Rattle.rules.specs.Chains.{chain_of}
 use Rattle.rules.specs.Lookup.{first_named}
-use Rattle.lookup.proofs.Laws.{entries_along}
 use Rattle.laws.specs.Entries.{Unbroken}
+use Rattle.links.specs.Links.{anodes_left}
+use Rattle.lookup.proofs.Laws.{entries_along}
 use Rattle.lookup.proofs.entry_named.Given as goal
 
-abbrev pub invariant-loop-fuel : goal.invariant-loop-fuel
-invariant-loop-fuel l = Unbroken (entries_along l.image l.firsts l.nexts l.fuel l.at)
-    × (first_named l.name (entries_along l.image l.firsts l.nexts l.fuel l.at) ≡ first_named l.name (entries_along l.image l.firsts l.nexts l.initial.fuel l.initial.at))
-
-abbrev pub decreases-loop-fuel : goal.decreases-loop-fuel
-decreases-loop-fuel l = l.fuel
+abbrev pub invariant-loop-a : goal.invariant-loop-a
+invariant-loop-a l = Unbroken (entries_along l.image l.firsts (anodes_left l.a-iterator))
+    × (first_named l.name (entries_along l.image l.firsts (anodes_left l.a-iterator)) ≡ first_named l.name (entries_along l.image l.firsts (chain_of (λ x. get_or l.nexts x 0) limit l.fn.head.0)))

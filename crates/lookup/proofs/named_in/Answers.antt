@@ -1,38 +1,35 @@
 use mathlib.Core.Path.{◌≡◌, sym, ◌∙◌}
-use Prim.Native.Nat.{◌+◌, ◌-◌, ◌*◌}
 use native.Mathlib.Omega.{arith}
-use Rattle.directory.specs.Entries.{name_in}
-use Rattle.rules.specs.Walk.{with_rest, entries_from}
+use Rattle.disk.specs.Blocks.{block_of}
 use Rattle.lookup.specs.Answers.{entry_of}
-use Rattle.laws.specs.Entries.{entries_none, block_whole, entries_read, read_within}
-use Rattle.lookup.proofs.Laws.{unbroken_no_fault, unbroken_rest, name_at_lem, named-passed, named_ended}
+use Rattle.laws.specs.Entries.{reads_none, read_within}
+use Rattle.lookup.proofs.Laws.{reader_whole, reads_placed, reads_same, unbroken_no_fault, unbroken_rest, name_at_lem, or_found, named-passed, named_ended}
 use Rattle.lookup.proofs.named_in.Goals as goal
 
-pub loop-fuel-init : goal.loop-fuel-init
-loop-fuel-init c = let w = block_whole _ _ _ c.block_part-block.ensures in
-    (rw w c.requires, rw w)
+pub loop-item-init : goal.loop-item-init
+loop-item-init c = rw c.into_iter-item-iterator.ensures.into_iter_gives
+    (let r = c.of-item-items in
+    let same : r.result.block.now ≡ block_of c.args.image.now c.args.b.0 = rw r.ensures.0 c.block_part-block.ensures in
+    let w = reader_whole _ _ r.result same r.ensures.1 r.ensures.2 in
+    (same, rw w c.requires, rw w))
 
-pub returns-in-End : goal.returns-in-End
-returns-in-End c = let read : let l = c.loop-fuel in let y = c.args.b.0 in let block = c.block_part-block.result.now in entries_from l.fuel block y l.at ≡ with_rest c.read_entry-read.result.walked (name_in block l.at) (y * 512 + l.at) (entries_from (l.fuel - 1) block y c.read_entry-read.result.after) = entries_read _ _ _ c.read_entry-read.ensures _ c.loop-fuel.fuel (c.loop-fuel.fuel - 1) (omega arith) in
-    let l = c.loop-fuel in
-    sym (named_ended _ _ (entry_of _ l.found) (read ∙ rw c.in-End.is)) ∙ l.invariant.1
+pub returns-in_default : goal.returns-in_default
+returns-in_default c = let l = c.loop-item in
+    absurd (unbroken_no_fault _ _ l.item-iterator c.next.new.self l.invariant.0 _ (rw c.in_default.is at c.in-Some.ensures.steps) l.invariant.1)
 
-pub returns-in-Fault : goal.returns-in-Fault
-returns-in-Fault c = let read : let l = c.loop-fuel in let y = c.args.b.0 in let block = c.block_part-block.result.now in entries_from l.fuel block y l.at ≡ with_rest c.read_entry-read.result.walked (name_in block l.at) (y * 512 + l.at) (entries_from (l.fuel - 1) block y c.read_entry-read.result.after) = entries_read _ _ _ c.read_entry-read.ensures _ c.loop-fuel.fuel (c.loop-fuel.fuel - 1) (omega arith) in
-    absurd (unbroken_no_fault _ _ _ _ _ c.in-Fault.is (rw read at c.loop-fuel.invariant.0))
+pub named_at-requires : goal.named_at-requires
+named_at-requires c = omega (arith, read_within c.args.b.0 _ _ _ (rw c.in-Ok.is at c.in-Some.ensures.steps))
 
-pub named_at-here-requires : goal.named_at-here-requires
-named_at-here-requires c = omega (arith, read_within _ _ _ c.read_entry-read.ensures _ c.in-Found.is)
-
-pub loop-fuel-preserved : goal.loop-fuel-preserved
-loop-fuel-preserved c = let read : let l = c.loop-fuel in let y = c.args.b.0 in let block = c.block_part-block.result.now in entries_from l.fuel block y l.at ≡ with_rest c.read_entry-read.result.walked (name_in block l.at) (y * 512 + l.at) (entries_from (l.fuel - 1) block y c.read_entry-read.result.after) = entries_read _ _ _ c.read_entry-read.ensures _ c.loop-fuel.fuel (c.loop-fuel.fuel - 1) (omega arith) in
-    let l = c.loop-fuel in
-    let step = read in (
-      unbroken_rest _ _ _ _ _ c.in-Found.is (rw step at l.invariant.0),
-      rw (c.first_of-found.ensures _, c.named_at-here.ensures _ (name_at_lem _ _ _ _ c.block_part-block.ensures (read_within _ _ _ c.read_entry-read.ensures _ c.in-Found.is)))
-          (named-passed _ _ _ (entry_of _ l.found) ∙ (rw (step, c.in-Found.is) at l.invariant.1)),
+pub loop-item-preserved : goal.loop-item-preserved
+loop-item-preserved c = let l = c.loop-item in
+    let y = c.args.b.0 in
+    let read = rw c.in-Ok.is at c.in-Some.ensures.steps in
+    let there = name_at_lem _ y _ _ c.block_part-block.ensures (read_within y _ _ _ read) in (
+      reads_same _ y _ _ l.invariant.0 _ read,
+      unbroken_rest _ y _ _ l.invariant.0 _ read l.invariant.1,
+      rw (c.or-found.ensures, or_found _ l.found c.named_at.result, c.named_at.ensures _ there) (named-passed _ _ _ (entry_of _ l.found) ∙ (rw (reads_placed _ y _ _ l.invariant.0 _ read) at l.invariant.2)),
     )
 
 pub returns : goal.returns
-returns c = let l = c.loop-fuel in
-    sym (named_ended _ _ (entry_of _ l.found) (entries_none _ _ l.fuel _ (omega arith))) ∙ l.invariant.1
+returns c = let l = c.loop-item in
+    sym (named_ended _ _ (entry_of _ l.found) (reads_none _ c.loop-item.item-iterator c.next.new.self c.in-None.ensures.steps)) ∙ l.invariant.2

@@ -1,14 +1,12 @@
 use mathlib.Core.Path.{◌≡◌}
 use mathlib.Core.List.{List, ◌++◌}
-use Prim.Native.Nat.{◌+◌, ◌-◌}
-use Rattle.rules.specs.Walk.{Entered, entries_from, entries_in}
+use Rattle.disk.specs.Blocks.{block_of}
+use Rattle.rules.specs.Walk.{Entered, entries_in}
 use Rattle.rules.specs.Lookup.{nth}
-use Rattle.laws.specs.Entries.{Unbroken}
+use Rattle.laws.specs.Entries.{entries_left, Unbroken}
 use Rattle.lookup.proofs.nth_in.Given as goal
 
-abbrev pub invariant-loop-fuel : goal.invariant-loop-fuel
-invariant-loop-fuel l = Unbroken (entries_from l.fuel l.block l.b.0 l.at)
-    × ((rest : List Entered) → nth (entries_from l.fuel l.block l.b.0 l.at ++ rest) l.left ≡ nth (entries_in l.image l.b.0 ++ rest) l.initial.left)
-
-abbrev pub decreases-loop-fuel : goal.decreases-loop-fuel
-decreases-loop-fuel l = l.fuel
+abbrev pub invariant-loop-item : goal.invariant-loop-item
+invariant-loop-item l = (l.item-iterator.block.now ≡ block_of l.image l.b.0)
+    × Unbroken (entries_left l.b.0 l.item-iterator)
+    × ((rest : List Entered) → nth (entries_left l.b.0 l.item-iterator ++ rest) l.left ≡ nth (entries_in l.image l.b.0 ++ rest) l.initial.left)

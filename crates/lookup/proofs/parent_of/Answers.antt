@@ -1,9 +1,10 @@
 use borrow.Author.Tests.{lt-ltb, le-ltb}
+use native.Mathlib.Omega.{arith}
 use Rattle.lookup.proofs.Queue.{place_parent}
 use Rattle.lookup.proofs.parent_of.Goals as goal
 
-pub returns-then-i-dirs : goal.returns-then-i-dirs
-returns-then-i-dirs c = rw (place_parent _ _ _ _, ← c.place_in_queue-i.ensures, lt-ltb _ _ c.if-i-dirs.true) c.entry.ensures
+pub returns-in-Some : goal.returns-in-Some
+returns-in-Some c = rw (place_parent _ _ _ _, c.in-Some.ensures.1, lt-ltb _ _ c.in-Some.ensures.0) c.entry.ensures
 
-pub returns : goal.returns
-returns c = rw (place_parent _ _ _ _, ← c.place_in_queue-i.ensures, le-ltb _ _ c.if-i-dirs.false)
+pub returns-in-None : goal.returns-in-None
+returns-in-None c = let n = c.args.dirs in rw (place_parent _ _ _ _, c.in-None.ensures, le-ltb n n (omega arith))

@@ -1,4 +1,6 @@
+use mathlib.Core.Path.{◌∙◌}
+use Rattle.making.proofs.Steps.{start_is}
 use Rattle.making.proofs.start_for.Goals as goal
 
-pub returns-in-Nowhere : goal.returns-in-Nowhere
-returns-in-Nowhere c = rw c.in-Nowhere.is
+pub returns : goal.returns
+returns c = c.unwrap_or.ensures ∙ start_is c.args.room c.args.parents.0

@@ -4,9 +4,6 @@ use lib.ListN.{length}
 use mathlib.Core.Path.{sym, ◌∙◌}
 use Rattle.named_changes.proofs.wrong_entry.Goals as goal
 
-pub returns-then-not-name_ok : goal.returns-then-not-name_ok
-returns-then-not-name_ok c = rw (sym c.name_ok.ensures ∙ c.if-not-name_ok.true)
-
-pub returns : goal.returns
+pub returns-else-not-name_ok : goal.returns-else-not-name_ok
 unfolding good_comment
-returns c = rw (sym c.name_ok.ensures ∙ c.if-not-name_ok.false) (sym (long_comment (length c.args.comment.now)))
+returns-else-not-name_ok c = rw (sym c.name_ok.ensures ∙ c.if-not-name_ok.false) (sym (long_comment (length c.args.comment.now)))

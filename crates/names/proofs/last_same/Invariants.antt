@@ -1,5 +1,4 @@
 use mathlib.Core.Path.{◌≡◌}
-use Prim.Native.Nat.{◌-◌}
 use Rattle.rules.specs.Folding.{folded}
 use Rattle.names.specs.Index.{last_below, is_same, bucket_of, Chain}
 use Rattle.names.proofs.last_same.Given as goal

@@ -3,7 +3,6 @@ use borrow.Author.Rules.{rules}
 use Rattle.counting.specs.Laws.{any_below-none, any_below_hit}
 use Rattle.owners.proofs.Laws.{any_kept}
 use native.Mathlib.Omega.{arith}
-use Prim.Native.Nat.{◌-◌}
 use mathlib.Core.Path.{◌≡◌, sym}
 use Rattle.owners.proofs.no_owner.Goals as goal
 use Rattle.owners.proofs.no_owner.Goals.{then-blocks-x-eq0, else-blocks-x-eq0}

@@ -1,5 +1,4 @@
 use mathlib.Core.Path.{refl, sym, ◌∙◌}
-use native.Mathlib.Omega.{arith}
 use Rattle.placing.proofs.Cases.{grow_empty, grow_end, grow_start, grow_not}
 use Rattle.placing.proofs.grow.Goals as goal
 
@@ -8,9 +7,6 @@ returns-then-has-eq0 c = λ n other. rw (c.rewrite.ensures n) (grow_empty _ _ n 
 
 pub returns-then-from-has : goal.returns-then-from-has
 returns-then-from-has c = λ n other. rw (c.rewrite-then-from-has.ensures n, c.entry-from.ensures, c.entry-has.ensures) (grow_end _ _ n _ _ _ other (rw c.entry-has.ensures at c.if-has-eq0.false) (rw (c.entry-from.ensures, c.entry-has.ensures) at c.if-from-has.true))
-
-pub overflow_add-has-then-first-count : goal.overflow_add-has-then-first-count
-overflow_add-has-then-first-count c = record { fits = omega (arith, c.entry-has.ensures, c.entry-from.ensures, c.if-has-eq0.false, c.if-first-count.true, c.requires.z_bound_2.0 (omega (arith, c.entry-has.ensures, c.if-has-eq0.false))) }
 
 pub returns-then-first-count : goal.returns-then-first-count
 returns-then-first-count c = λ n other. rw (c.rewrite-then-first-count.ensures n, c.entry-has.ensures) (grow_start _ _ n _ _ _ other (rw c.entry-has.ensures at c.if-has-eq0.false) (rw (c.entry-from.ensures, c.entry-has.ensures) at c.if-from-has.false) (rw c.entry-from.ensures at c.if-first-count.true))

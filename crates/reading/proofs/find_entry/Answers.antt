@@ -1,22 +1,19 @@
-use Rattle.looks.specs.Laws.{find_search, find_reached}
+use Rattle.std.proofs.lemmas.Result.{err_from_is_err_and}
+use Rattle.looks.specs.Laws.{find_search}
 use Rattle.rules.specs.Calls.{done_or}
 use Rattle.find.proofs.Laws.{refused_some, not_done}
-use mathlib.Core.Path.{sym, ◌∙◌}
-use Rattle.lookup.specs.Answers.{entered}
-use Rattle.change_laws.specs.Reached.{EntryIn, named-member}
-use Rattle.reading.proofs.Laws.{open_entry, start_low}
+use mathlib.Core.Path.{refl, sym, ◌∙◌}
+use Rattle.reading.proofs.Laws.{named_entry, start_low}
 use Rattle.reading.proofs.find_entry.Goals as goal
 
+pub returns-in_err-e : goal.returns-in_err-e
+returns-in_err-e c = let p = err_from_is_err_and c.from_residual.result c.from_residual.ensures.1 in
+    rw (p.1, p.2) (record { answer = sym (find_search _ _ _ _ ∙ c.in_err-e.ensures); fields = sym (not_done _ (refused_some c.in_err-e.field-0.0 _ refl) _ _) })
+
 pub put_fields-requires : goal.put_fields-requires
-put_fields-requires c = let standing : let g = c.args in EntryIn g.image.now g.head.0 (entered g.image.now c.in-Found.e) = let f = rw c.in-Found.is at c.find_named-found.ensures in
-    open_entry c.requires.2 _ (find_reached _ _ _ _ f.0) _ (named-member _ _ _ _ _ f.1) in
-    start_low standing
+put_fields-requires c = let f = c.in_ok-e.ensures in start_low (named_entry c.requires.2 _ _ _ f.0 f.1)
 
-pub returns-in-Found : goal.returns-in-Found
+pub returns : goal.returns
 unfolding done_or
-returns-in-Found c = let f = rw c.in-Found.is at c.find_named-found.ensures in
+returns c = let f = c.in_ok-e.ensures in
     record { answer = sym (find_search _ _ _ _ ∙ f.0); fields = rw f.1 c.put_fields.ensures }
-
-pub returns-in-Refused : goal.returns-in-Refused
-returns-in-Refused c = let n = c.number.ensures in
-    record { answer = n ∙ sym (find_search _ _ _ _ ∙ rw c.in-Refused.is at c.find_named-found.ensures); fields = sym (not_done _ (refused_some c.in-Refused.r _ n) _ _) }

@@ -1,23 +1,21 @@
-use mathlib.Core.Path.{◌∙◌}
-use Prim.Native.Nat.{◌-◌}
 use native.Mathlib.Omega.{arith}
+use Rattle.anodes.specs.Loaded.{table_from}
+use Rattle.placing.proofs.Found.{passed_on}
 use Rattle.relocating.proofs.NewPlaces.{reslots_first, reslots_next, reslots_stop, reslots_all}
-use borrow.Author.Rules.{rules}
 use Rattle.relocating.proofs.reslot_all.Goals as goal
 
 pub loop-k-init : goal.loop-k-init
-loop-k-init c = (c.requires.anode_tables, omega arith, reslots_first _ _ c.requires.by_index.1)
+loop-k-init c = reslots_first _ _ c.requires.by_index.1
 
-pub reslot-moves-requires : goal.reslot-moves-requires
-reslot-moves-requires c = let l = c.loop-k in record { anode_tables = (l.invariant.0.0, l.invariant.0.1, c.loop-k-test.true); by_index = (l.invariant.2.last, l.invariant.2.state) }
+pub reslot-requires-clause-by_index : goal.reslot-requires-clause-by_index
+reslot-requires-clause-by_index c = (c.loop-k.invariant.last, c.loop-k.invariant.state)
 
-pub returns-in_default : goal.returns-in_default
-returns-in_default c = rw c.in_default.is (reslots_stop c.loop-k.invariant.2 c.loop-k-test.true _ _ c.reslot-moves.ensures _ c.in_default.is)
+pub returns-in_err-reslot : goal.returns-in_err-reslot
+returns-in_err-reslot c = let t = c.reslot.new in
+    rw (passed_on c.from_residual.result _ c.from_residual.ensures.1) (reslots_stop c.loop-k.invariant c.loop-k-test.true (table_from t.counts t.firsts t.nexts t.slots) _ c.in_err-reslot.ensures)
 
 pub loop-k-preserved : goal.loop-k-preserved
-loop-k-preserved c = let w = c.reslot-moves in
-    let l = c.loop-k in
-    (((w.auto.counts ∙ l.invariant.0.0.0, w.auto.firsts ∙ l.invariant.0.0.1, w.auto.nexts ∙ l.invariant.0.0.2), w.auto.slots ∙ l.invariant.0.1), search rules, reslots_next l.invariant.2 c.loop-k-test.true _ _ w.ensures c.in-Done.is)
+loop-k-preserved c = reslots_next c.loop-k.invariant c.loop-k-test.true _ c.in_ok-reslot.ensures
 
 pub returns : goal.returns
-returns c = reslots_all c.loop-k.invariant.2 c.loop-k-test.false
+returns c = reslots_all c.loop-k.invariant (omega arith)

@@ -1,17 +1,26 @@
-use Prim.Native.Nat.{◌-◌}
-use native.Mathlib.Omega.{arith}
+use Rattle.std.proofs.Common.{◌<◌, arith, rules, length-take}
+use lib.Seq.{get_or-take}
 use Rattle.report.proofs.Totals.{taken_large, taken_none, taken_more, taken-all}
-use borrow.Author.Rules.{rules}
 use Rattle.report.proofs.all_taken.Goals as goal
 
-pub loop-i-init : goal.loop-i-init
-loop-i-init c = (search rules, search rules, taken_none c.args.totals.now c.requires)
+pub loop-n-init : goal.loop-n-init
+loop-n-init c = (search rules, taken_none c.args.totals.now c.requires)
 
-pub returns-then-totals-i-ge100000 : goal.returns-then-totals-i-ge100000
-returns-then-totals-i-ge100000 c = taken_large _ c.requires _ c.loop-i-test.true c.if-totals-i-ge100000.true
+pub returns-then-n-ge100000 : goal.returns-then-n-ge100000
+returns-then-n-ge100000 c =
+    let t = c.args.totals.now in
+    let i = c.loop-n.n-index in
+    let l : i < 18 = omega (arith, length-take 18 t) in
+    taken_large t c.requires i l (rw get_or-take at c.if-n-ge100000.true)
 
-pub loop-i-preserved : goal.loop-i-preserved
-loop-i-preserved c = (search rules, search rules, taken_more _ c.requires _ _ c.loop-i-test.true c.loop-i.invariant.2)
+pub loop-n-preserved : goal.loop-n-preserved
+loop-n-preserved c =
+    let t = c.args.totals.now in
+    let i = c.loop-n.n-index in
+    let l : i < 18 = omega (arith, length-take 18 t) in
+    (omega arith, rw get_or-take (taken_more t c.requires i c.loop-n.sum l c.loop-n.invariant.1))
 
 pub returns : goal.returns
-returns c = taken-all _ c.requires c.loop-i.i _ (omega arith) c.loop-i.invariant.2
+returns c =
+    let t = c.args.totals.now in
+    taken-all t c.requires c.loop-n.n-index c.loop-n.sum (omega (arith, length-take 18 t)) c.loop-n.invariant.1

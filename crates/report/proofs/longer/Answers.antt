@@ -5,8 +5,5 @@ use Rattle.report.proofs.longer.Goals as goal
 pub returns-then-owner-ne1 : goal.returns-then-owner-ne1
 returns-then-owner-ne1 c = omega (arith, none_ends c.args.owner c.args.len c.if-owner-ne1.true)
 
-pub returns-then-longest-len : goal.returns-then-longest-len
-returns-then-longest-len c = omega (arith, free_ends c.args.owner c.args.len c.if-owner-ne1.false)
-
 pub returns : goal.returns
-returns c = omega (arith, free_ends c.args.owner c.args.len c.if-owner-ne1.false)
+returns c = omega (arith, free_ends c.args.owner c.args.len c.if-owner-ne1.false, c.max.ensures)

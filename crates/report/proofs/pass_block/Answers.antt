@@ -9,7 +9,7 @@ pub returns-then-owner-s : goal.returns-then-owner-s
 returns-then-owner-s c = surveyed_same _ _ _ _ c.requires.surveyed _ (add-one _) c.if-owner-s.true
 
 pub overflow_cast-owner : goal.overflow_cast-owner
-overflow_cast-owner c = omega (arith, c.shared_slice_known-2-1.given (c.args.x + 1))
+overflow_cast-owner c = omega (arith, c.type_inv.table (c.args.x + 1))
 
 pub count_at-requires : goal.count_at-requires
 count_at-requires c = omega (arith, counted_few c.args.table.now c.args.starts.now c.args.x c.requires.surveyed.counts (get_or c.args.table.now (c.args.x + 1) 0))

@@ -1,20 +1,20 @@
-use Prim.Native.Nat.{◌-◌}
-use mathlib.Core.Path.{refl, ◌∙◌}
-use native.Mathlib.Omega.{arith}
+use lib.Seq.{take_all}
+use Rattle.std.proofs.Common.{arith, length, take, ◌-◌, length-drop, ◌≡◌, ◌∙◌, ℕ, Bool, ltb, List, [], ◌∷◌, drop, refl, ap, ◌||◌, rules, tests}
+use Rattle.std.specs.List.{list_any}
+use Rattle.std.proofs.lemmas.Iterator.{YieldsList-from_slice}
+use Rattle.std.proofs.lemmas.Iterator.Search.{any_from_yields_List}
+use Rattle.rules.specs.Counting.{any_in}
 use Rattle.report.specs.Report.{sums_in}
-use Rattle.report.proofs.Totals.{any_over, any_next, any_ended}
-use borrow.Author.Rules.{rules}
 use Rattle.report.proofs.some_over.Goals as goal
 
-pub loop-i-init : goal.loop-i-init
-unfolding sums_in
-loop-i-init c = (search rules, search rules, refl)
-
-pub returns-then-totals-i-gt10000000000000 : goal.returns-then-totals-i-gt10000000000000
-returns-then-totals-i-gt10000000000000 c = any_over _ c.args.totals.now c.loop-i.i (omega arith) c.if-totals-i-gt10000000000000.true ∙ c.loop-i.invariant.2
-
-pub loop-i-preserved : goal.loop-i-preserved
-loop-i-preserved c = (search rules, search rules, any_next _ c.args.totals.now c.loop-i.i (omega arith) c.if-totals-i-gt10000000000000.false ∙ c.loop-i.invariant.2)
+any_listed : (test : ℕ → Bool) (l : List ℕ) → list_any test l ≡ any_in test l
+unfolding any_in
+any_listed test [] = refl
+any_listed test (x ∷ l) = ap (λ (b : Bool). test x || b) (any_listed test l)
 
 pub returns : goal.returns
-returns c = any_ended _ c.args.totals.now c.loop-i.i (omega arith) ∙ c.loop-i.invariant.2
+unfolding sums_in
+returns c =
+    let t = c.args.totals.now in
+    let rest : take (length t - 18) (drop 18 t) ≡ drop 18 t = take_all (length t - 18) (drop 18 t) (omega (arith, length-drop 18 t)) in
+    any_from_yields_List (ltb 10000000000000) _ _ c.any.result c.any.ensures.ran (YieldsList-from_slice (drop 18 t) cc) (λ x b q k. search (rules, tests)) ∙ any_listed (ltb 10000000000000) (drop 18 t)

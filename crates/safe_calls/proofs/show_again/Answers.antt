@@ -1,8 +1,9 @@
+use mathlib.Core.Path.{sym, ◌∙◌}
 use Rattle.safe_calls.proofs.Outcomes.{shown_kept, shown_checked}
 use Rattle.safe_calls.proofs.show_again.Goals as goal
 
-pub returns-then-n-ne0 : goal.returns-then-n-ne0
-returns-then-n-ne0 c = shown_kept _ c.if-n-ne0.true _ _ _
+pub returns-then-is_err : goal.returns-then-is_err
+returns-then-is_err c = shown_kept _ (sym c.is_err.ensures.value ∙ c.if-is_err.true) _ _ _
 
 pub returns : goal.returns
-returns c = shown_checked _ c.if-n-ne0.false _ _ _ _ _ c.open_disk.result c.open_disk.ensures.outcome
+returns c = shown_checked _ (sym c.is_err.ensures.value ∙ c.if-is_err.false) _ _ _ _ _ c.open.result c.open.ensures.outcome

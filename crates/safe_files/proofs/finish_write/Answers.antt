@@ -1,6 +1,5 @@
 use Prim.Native.Nat.{◌+◌, ◌*◌, ◌≤◌}
 use lib.ListN.{length}
-use mathlib.Core.Path.{refl}
 use native.Mathlib.Omega.{arith}
 use Rattle.lookup.specs.Answers.{entered}
 use Rattle.change_tables.specs.Chains.{reached-entry}
@@ -15,7 +14,7 @@ use Rattle.safe_files.proofs.finish_write.Goals as goal
 pub returns-then-out-count : goal.returns-then-out-count
 returns-then-out-count c = let s = c in
     let m = reached-entry s.requires.loaded.0 (entered s.args.image.now s.args.e) s.requires.loaded.1 in
-    leaves_short _ _ _ s.requires.bytes_bound _ s.requires.by_index.0 s.requires.by_index.1 (omega (arith, c.if-out-count.true, c.used_slots.ensures.0, s.requires.loaded.3, list_long m s.requires.loaded.2 _ _ _ _ s.requires.by_index.1)) _ refl refl
+    leaves_short _ _ _ s.requires.bytes_bound _ s.requires.by_index.0 s.requires.by_index.1 (omega (arith, c.if-out-count.true, c.used_slots.ensures.0, s.requires.loaded.3, list_long m s.requires.loaded.2 _ _ _ _ s.requires.by_index.1))
 
 pub commit_write-requires : goal.commit_write-requires
 commit_write-requires c = let s = c in
@@ -35,4 +34,4 @@ returns c = let s = c in
     let many = list_long m s.requires.loaded.2 _ _ _ ys plan in
     let fits : (length ys + 1) * 514 ≤ length c.args.out.now = omega (arith, c.if-out-count.false, c.used_slots.ensures.0, s.requires.loaded.3, many) in
     let w = c.commit_write.ensures ys (plan, fits) in
-    leaves_done _ _ _ s.requires.bytes_bound _ ys plan fits (writes_leave m.directory.image (write_own m _ _) _ ys plan) (list_inside m.directory.image (write_own m _ _) _ ys plan) w.staged w.front w.long w.behind w.within _ _ w.image w.listed _ refl (omega (arith, c.used_slots.ensures.0, s.requires.loaded.3, many))
+    leaves_done _ _ _ s.requires.bytes_bound _ ys plan fits (writes_leave m.directory.image (write_own m _ _) _ ys plan) (list_inside m.directory.image (write_own m _ _) _ ys plan) w.staged w.front w.long w.behind w.within _ _ w.image w.listed _ (omega (arith, c.used_slots.ensures.0, s.requires.loaded.3, many))

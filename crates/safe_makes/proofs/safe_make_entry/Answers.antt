@@ -15,7 +15,7 @@ returns-then-chain_sum-need c = let s = c in
     let img = s.args.image.now in
     let free = chain-counted s.requires.loaded.0 1 _ c.chain_sum.ensures in
     let need = new-counted img s.args.head.0 (let a = c.args in new_entry (is_dir a.kind) a.name.now a.comment.now a.day a.minute a.tick a.protection) c.slots_of-slots.result c.slots_of-slots.ensures _ c.new_count-need.ensures.0 in
-    leaves_few img s.args.out.now _ (too_few img _ _ _ free need c.if-chain_sum-need.true) _ c.not_listed.ensures.0 c.not_listed.ensures.1
+    leaves_few img s.args.out.now _ (too_few img _ _ _ free need c.if-chain_sum-need.true)
 
 pub overflow_add-need : goal.overflow_add-need
 overflow_add-need c = omega (arith, c.new_count-need.ensures.1)

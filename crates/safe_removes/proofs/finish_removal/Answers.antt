@@ -1,4 +1,3 @@
-use mathlib.Core.Path.{refl}
 use native.Mathlib.Omega.{arith}
 use Rattle.anodes.specs.Loaded.{slots_from}
 use Rattle.lookup.specs.Answers.{entered}
@@ -8,7 +7,7 @@ use Rattle.safe_removes.proofs.finish_removal.Goals as goal
 
 pub returns-then-out-count : goal.returns-then-out-count
 returns-then-out-count c = let s = c in
-    short_leaves (reached-entry s.requires.loaded.0 (entered s.args.image.now s.args.e) s.requires.loaded.1) _ _ s.requires.e_value s.args.out.now s.requires.e_bound (omega (arith, c.if-out-count.true, c.used_slots-count.ensures.0)) _ refl refl
+    short_leaves (reached-entry s.requires.loaded.0 (entered s.args.image.now s.args.e) s.requires.loaded.1) _ _ s.requires.e_value s.args.out.now s.requires.e_bound (omega (arith, c.if-out-count.true, c.used_slots-count.ensures.0))
 
 pub put_write-at-requires : goal.put_write-at-requires
 put_write-at-requires c = let s = c in
@@ -23,4 +22,4 @@ put_end-requires c = let s = c in
 
 pub returns : goal.returns
 returns c = let s = c in
-    done_leaves (reached-entry s.requires.loaded.0 (entered s.args.image.now s.args.e) s.requires.loaded.1) _ _ s.requires.e_value s.args.out.now s.requires.e_bound (omega (arith, c.if-out-count.false, c.used_slots-count.ensures.0)) _ _ _ _ c.store_removal.ensures c.put_write-at.ensures.0 c.put_write-at.ensures.1 c.put_end.ensures _ refl (omega (arith, c.used_slots-count.ensures.0))
+    done_leaves (reached-entry s.requires.loaded.0 (entered s.args.image.now s.args.e) s.requires.loaded.1) _ _ s.requires.e_value s.args.out.now s.requires.e_bound (omega (arith, c.if-out-count.false, c.used_slots-count.ensures.0)) _ _ _ _ c.store_removal.ensures c.put_write-at.ensures.0 c.put_write-at.ensures.1 c.put_end.ensures _ (omega (arith, c.used_slots-count.ensures.0))

@@ -1,37 +1,66 @@
 use mathlib.Core.Path.{◌≡◌}
+use Prim.Native.Nat.{◌≤◌}
 use lib.ListN.{length}
+use Rattle.rules.specs.Anodes.{anodes_of}
+use Rattle.rules.specs.Totals.{free_blocks}
+use Rattle.rules.specs.Plans.{table_of}
+use Rattle.safe_rules.specs.SafePlans.{remove_change, new_blocks}
 use Rattle.anodes.specs.Loaded.{anodes_from}
-use Rattle.safe_steps.proofs.Steps.{ends_done}
+use Rattle.placing.proofs.Found.{passed_on}
 use Rattle.lookup.specs.Answers.{entered}
+use Rattle.change_laws.specs.Reached.{EntryIn}
+use Rattle.change_tables.specs.Leaves.{ReachedEntry}
 use Rattle.change_tables.specs.Chains.{reached-entry, loaded_copies, chain-counted}
 use Rattle.safe_plans.proofs.Counts.{too_few, enough_free}
 use Rattle.safe_stores.proofs.Leaves.{leaves_few, leaves_stopped}
 use Rattle.safe_removes.proofs.Plans.{block_small, owner_found, new-counted, plan-placed}
 use borrow.Author.Rules.{rules}
 use Rattle.safe_removes.proofs.safe_remove_entry.Goals as goal
+use Rattle.safe_removes.proofs.safe_remove_entry.Goals.{Start, Else-chain_sum-need}
+
+-- the entry stands in its directory
+abbrev reached : (c : Start) → ReachedEntry c.args.image.now (entered c.args.image.now c.args.e)
+reached c = (c.args.home.0, c.requires.home_value.0, c.requires.home_value.1)
+
+member : (c : Start) → EntryIn c.args.image.now c.args.home.0 (entered c.args.image.now c.args.e)
+member c = reached-entry c.requires.loaded.0 _ (reached c)
+
+-- enough blocks are free
+enough : (c : Else-chain_sum-need) → new_blocks c.args.image.now (remove_change c.args.image.now (table_of c.args.image.now) (entered c.args.image.now c.args.e)) ≤ free_blocks (anodes_of c.args.image.now)
+enough c =
+    enough_free _ _ _ _ (chain-counted c.requires.loaded.0 1 _ c.chain_sum.ensures)
+    (new-counted (reached-entry c.requires.loaded.0 _ (c.args.home.0, c.requires.home_value.0, c.requires.home_value.1)) c.slots_of-slots.result c.slots_of-slots.ensures _ c.used_slots-need.ensures.0) c.if-chain_sum-need.false
 
 pub returns-then-chain_sum-need : goal.returns-then-chain_sum-need
-returns-then-chain_sum-need c = let s = c in
-    let m = reached-entry s.requires.loaded.0 (entered s.args.image.now s.args.e) (s.args.home.0, s.requires.home_value.0, s.requires.home_value.1) in
-    leaves_few _ _ _ (too_few _ _ _ _ (chain-counted s.requires.loaded.0 1 _ c.chain_sum.ensures) (new-counted m c.slots_of-slots.result c.slots_of-slots.ensures _ c.used_slots-need.ensures.0) c.if-chain_sum-need.true) _ c.not_listed.ensures.0 c.not_listed.ensures.1
+returns-then-chain_sum-need c =
+    leaves_few _ _ _ (too_few _ _ _ _ (chain-counted c.requires.loaded.0 1 _ c.chain_sum.ensures)
+    (new-counted (member (goal.at.returns-then-chain_sum-need c).Start) c.slots_of-slots.result c.slots_of-slots.ensures _ c.used_slots-need.ensures.0) c.if-chain_sum-need.true)
 
 pub entry_block-requires : goal.entry_block-requires
-entry_block-requires c = let s = c in block_small (reached-entry s.requires.loaded.0 (entered s.args.image.now s.args.e) (s.args.home.0, s.requires.home_value.0, s.requires.home_value.1))
+entry_block-requires c = block_small (member (goal.at.entry_block-requires c).Start)
 
-pub plan_removal-moves-requires : goal.plan_removal-moves-requires
-plan_removal-moves-requires c = let slots-long : length c.slots_of-slots.result ≡ 42 = search rules in
-    let s = c in
-    let m = reached-entry s.requires.loaded.0 (entered s.args.image.now s.args.e) (s.args.home.0, s.requires.home_value.0, s.requires.home_value.1) in
-    record { loaded = (loaded_copies s.requires.loaded.0 _ _ _ c.copied-new_counts.ensures c.copied-new_firsts.ensures c.copied-new_nexts.ensures, s.requires.loaded.1); slots_len = (slots-long, c.slots_of-slots.ensures); reached_entry = ((s.args.home.0, s.requires.home_value.0, s.requires.home_value.1), owner_found m s.requires.loaded.0 _ c.entry_block.ensures _ c.anode_with-owner.ensures) }
+pub plan_removal-requires : goal.plan_removal-requires
+plan_removal-requires c =
+    let at = (goal.at.plan_removal-requires c).Start in
+    let slots-long : length c.slots_of-slots.result ≡ 42 = search rules in
+    record {
+      loaded = (loaded_copies c.requires.loaded.0 _ _ _ c.copied-new_counts.ensures c.copied-new_firsts.ensures c.copied-new_nexts.ensures, c.requires.loaded.1);
+      slots_len = (slots-long, c.slots_of-slots.ensures);
+      reached_entry = (reached at, owner_found (member at) c.requires.loaded.0 _ c.entry_block.ensures _ c.anode_with-owner.ensures);
+    }
 
-pub returns-in-Stopped : goal.returns-in-Stopped
-returns-in-Stopped c = let s = c in
-    let m = reached-entry s.requires.loaded.0 (entered s.args.image.now s.args.e) (s.args.home.0, s.requires.home_value.0, s.requires.home_value.1) in
-    leaves_stopped _ _ _ (enough_free _ _ _ _ (chain-counted s.requires.loaded.0 1 _ c.chain_sum.ensures) (new-counted m c.slots_of-slots.result c.slots_of-slots.ensures _ c.used_slots-need.ensures.0) c.if-chain_sum-need.false) _ (rw c.in-Stopped.is at c.plan_removal-moves.ensures) _ c.not_listed-in-Stopped.ensures.0 c.not_listed-in-Stopped.ensures.1
+pub returns-in_err-plan_removal : goal.returns-in_err-plan_removal
+returns-in_err-plan_removal c =
+    rw (passed_on c.from_residual.result _ c.from_residual.ensures.1)
+    (leaves_stopped _ _ _ (enough (goal.at.returns-in_err-plan_removal c).Else-chain_sum-need) _ (rw c.in_err-plan_removal.was at c.plan_removal.ensures))
 
 pub finish_removal-requires : goal.finish_removal-requires
 unfolding anodes_from
-finish_removal-requires c = let s = c in
-    let m = reached-entry s.requires.loaded.0 (entered s.args.image.now s.args.e) (s.args.home.0, s.requires.home_value.0, s.requires.home_value.1) in
-    let (ys, plan) = ends_done _ _ _ c.in_default.is c.plan_removal-moves.ensures in
-    record { loaded = (s.requires.loaded.0, (s.args.home.0, s.requires.home_value.0, s.requires.home_value.1)); e_bound = enough_free _ _ _ _ (chain-counted s.requires.loaded.0 1 _ c.chain_sum.ensures) (new-counted m c.slots_of-slots.result c.slots_of-slots.ensures _ c.used_slots-need.ensures.0) c.if-chain_sum-need.false; e_value = plan-placed m _ ys plan _ (owner_found m s.requires.loaded.0 _ c.entry_block.ensures _ c.anode_with-owner.ensures) _ c.entry.ensures }
+finish_removal-requires c =
+    let at = (goal.at.finish_removal-requires c).Start in
+    let (ys, plan) = rw c.in_ok-plan_removal.was at c.plan_removal.ensures in
+    record {
+      loaded = (c.requires.loaded.0, reached at);
+      e_bound = enough (goal.at.finish_removal-requires c).Else-chain_sum-need;
+      e_value = plan-placed (member at) _ ys plan _ (owner_found (member at) c.requires.loaded.0 _ c.entry_block.ensures _ c.anode_with-owner.ensures) _ c.entry.ensures;
+    }

@@ -1,4 +1,4 @@
-use mathlib.Core.Path.{◌≡◌, refl, ◌∙◌}
+use mathlib.Core.Path.{◌≡◌, ◌∙◌}
 use Prim.Native.Nat.{◌-◌, ◌*◌, ◌≤◌}
 use native.Mathlib.Omega.{arith}
 use lib.ListN.{length, length-take}
@@ -22,7 +22,7 @@ overflow_mul-count c = omega (arith, c.used_slots.ensures.1, c.blocks_for-want.e
 
 pub returns-then-out-count : goal.returns-then-out-count
 returns-then-out-count c = let s = c in
-    short_leaves (reached-entry s.requires.loaded.0 (entered s.args.image.now s.args.e) s.requires.loaded.1) s.args.size s.requires.loaded.3 _ _ s.requires.resize_plan s.args.out.now s.requires.size_bound (omega (arith, c.if-out-count.true, c.used_slots.ensures.0, c.blocks_for-want.ensures)) _ refl refl
+    short_leaves (reached-entry s.requires.loaded.0 (entered s.args.image.now s.args.e) s.requires.loaded.1) s.args.size s.requires.loaded.3 _ _ s.requires.resize_plan s.args.out.now s.requires.size_bound (omega (arith, c.if-out-count.true, c.used_slots.ensures.0, c.blocks_for-want.ensures))
 
 pub stage_resized-requires : goal.stage_resized-requires
 stage_resized-requires c = let s = c in
@@ -64,4 +64,4 @@ returns c = let s = c in
     let all : length two ≡ len = omega (arith, g.auto.stage, length-take (len - 0) s.args.out.now, c.if-out-count.false) in
     let room : len ≤ length s.args.out.now = omega (arith, c.if-out-count.false) in
     done_leaves (reached-entry s.requires.loaded.0 (entered s.args.image.now s.args.e) s.requires.loaded.1) s.args.size s.requires.loaded.3 _ _ s.requires.resize_plan s.args.out.now s.requires.size_bound (omega (arith, c.if-out-count.false, c.used_slots.ensures.0, c.blocks_for-want.ensures))
-    _ len (staged_whole s.args.out.now two len all room) (staged_behind s.args.out.now two len all room) (omega (arith, c.blocks_for-want.ensures)) _ _ c.store_resized.ensures c.list_resized.ensures _ refl (omega (arith, c.used_slots.ensures.0, c.blocks_for-want.ensures))
+    _ len (staged_whole s.args.out.now two len all room) (staged_behind s.args.out.now two len all room) (omega (arith, c.blocks_for-want.ensures)) _ _ c.store_resized.ensures c.list_resized.ensures _ (omega (arith, c.used_slots.ensures.0, c.blocks_for-want.ensures))

@@ -1,8 +1,12 @@
-use borrow.Author.Tests.{eq-eqb, ne_eqb}
+use mathlib.Core.Path.{◌≡◌, refl, ◌∙◌}
+use mathlib.Core.Bool.{Bool, true, false, cond, not}
+use lib.Dec.{eqb}
+use mir.Val.{bool_byte}
 use Rattle.safe_steps.proofs.slot_count.Goals as goal
 
-pub returns-then-y-eq0 : goal.returns-then-y-eq0
-returns-then-y-eq0 c = rw (eq-eqb _ _ c.if-y-eq0.true)
+one_for : (b : Bool) → bool_byte (not b) ≡ cond b 0 1
+one_for true = refl
+one_for false = refl
 
 pub returns : goal.returns
-returns c = rw (ne_eqb _ _ c.if-y-eq0.false)
+returns c = c.from.ensures ∙ one_for (eqb c.args.y 0)

@@ -1,17 +1,14 @@
-use Prim.Native.Nat.{◌-◌}
 use mathlib.Core.Path.{sym, ◌∙◌}
-use native.Mathlib.Omega.{arith}
-use Rattle.searches.proofs.Searches.{first-none, first-end, first_hit, first_step}
+use Rattle.rules.specs.Space.{first_extent}
+use Rattle.searches.proofs.Searches.{first_hit, first_step}
 use Rattle.searches.proofs.first_extent.Goals as goal
 
-pub returns-then-at-eq0 : goal.returns-then-at-eq0
-returns-then-at-eq0 c = let l = c.loop-fuel in sym (first-end _ _ l.fuel l.before.0 l.at.0 c.if-at-eq0.true) ∙ l.invariant
-
 pub returns-then-entry-ne0 : goal.returns-then-entry-ne0
-returns-then-entry-ne0 c = let l = c.loop-fuel in sym (first_hit _ _ l.fuel (l.fuel - 1) l.before.0 l.at.0 (omega arith) c.if-at-eq0.false (rw c.entry.ensures at c.if-entry-ne0.true)) ∙ l.invariant
+returns-then-entry-ne0 c = sym (first_hit _ _ _ _ (rw c.entry.ensures at c.if-entry-ne0.true)) ∙ (rw c.in-Some.ensures.steps at c.loop-anode.invariant)
 
-pub loop-fuel-preserved : goal.loop-fuel-preserved
-loop-fuel-preserved c = let l = c.loop-fuel in rw c.next_before_two-at.ensures (sym (first_step _ _ l.fuel (l.fuel - 1) l.before.0 l.at.0 (omega arith) c.if-at-eq0.false (sym c.entry.ensures ∙ c.if-entry-ne0.false)) ∙ l.invariant)
+pub loop-anode-preserved : goal.loop-anode-preserved
+loop-anode-preserved c = sym (first_step _ _ _ _ (sym c.entry.ensures ∙ c.if-entry-ne0.false)) ∙ (rw c.in-Some.ensures.steps at c.loop-anode.invariant)
 
 pub returns : goal.returns
-returns c = let l = c.loop-fuel in sym (first-none _ _ l.fuel l.before.0 l.at.0 (omega arith)) ∙ l.invariant
+unfolding first_extent
+returns c = rw c.in-None.ensures.steps.0 at c.loop-anode.invariant

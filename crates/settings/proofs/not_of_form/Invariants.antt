@@ -1,4 +1,3 @@
-use Prim.Native.Nat.{◌-◌, ◌≤◌}
 use mathlib.Core.Bool.{false}
 use mathlib.Core.Path.{◌≡◌}
 use Rattle.rules.specs.Counting.{any_below}
@@ -6,7 +5,4 @@ use Rattle.settings.specs.Files.{wrong_record}
 use Rattle.settings.proofs.not_of_form.Given as goal
 
 abbrev pub invariant-loop-i : goal.invariant-loop-i
-invariant-loop-i l = (l.i ≤ l.n) × (any_below (wrong_record l.form l.file) l.i ≡ false)
-
-abbrev pub decreases-loop-i : goal.decreases-loop-i
-decreases-loop-i l = l.n - l.i
+invariant-loop-i l = any_below (wrong_record l.form l.file) l.i ≡ false

@@ -23,5 +23,5 @@ returns c = let a = c.args in
     let first = c.entry.ensures in
     let s = anodes_from a.counts.now a.firsts.now a.nexts.now in
     let ex = exists_by (slots_from a.slots.now) in
-    let out : anodes_from w.new.counts w.new.firsts w.new.nexts ≡ without_first s a.p.0 a.x.0 = w.ensures ∙ first_out s _ _ _ (ap (λ (b : ℕ). b + 1) first) in
-    let step = c.put in record { plan = step.ensures.plan ∙ ap (λ (y : ℕ). put 3444 a.dir a.z.0 y ex (anodes_from w.new.counts w.new.firsts w.new.nexts)) first ∙ ap (λ (t : Anodes). put 3444 a.dir a.z.0 (get_or a.firsts.now a.x.0 0) ex t) out; unmoved = subst (λ (t : Anodes). UnlessMoved step.result t (anodes_from step.new.counts step.new.firsts step.new.nexts)) out step.ensures.unmoved }
+    let out : anodes_from w.new.counts w.new.firsts w.new.nexts ≡ without_first s a.from.before.0 a.from.anode.0 = w.ensures ∙ first_out s _ _ _ (ap (λ (b : ℕ). b + 1) first) in
+    let step = c.put in record { plan = step.ensures.plan ∙ ap (λ (y : ℕ). put 3444 a.dir a.z.0 y ex (anodes_from w.new.counts w.new.firsts w.new.nexts)) first ∙ ap (λ (t : Anodes). put 3444 a.dir a.z.0 (get_or a.firsts.now a.from.anode.0 0) ex t) out; unmoved = subst (λ (t : Anodes). UnlessMoved step.result t (anodes_from step.new.counts step.new.firsts step.new.nexts)) out step.ensures.unmoved }

@@ -1,7 +1,6 @@
-use Prim.Native.Nat.{ℕ, ◌-◌, ◌≤◌}
+use Prim.Native.Nat.{ℕ, ◌-◌}
 use mathlib.Core.Path.{◌≡◌}
 use mathlib.Core.List.{List, []}
-use lib.ListN.{length}
 use Rattle.rules.specs.Counting.{gather}
 use Rattle.rules.specs.Lookup.{entries_of}
 use Rattle.anodes.specs.Loaded.{anodes_from}
@@ -18,7 +17,4 @@ abbrev pub unmet_of : List ℕ → List ℕ → List ℕ → List ℕ → ℕ �
 unmet_of image firsts nexts met h = gather (unmet met) (entries_of image (anodes_from [] firsts nexts) h)
 
 abbrev pub invariant-loop-i : goal.invariant-loop-i
-invariant-loop-i l = (l.i ≤ l.dirs) × (length l.out ≡ length l.initial.out) × ((parents : List ℕ) → hand_all (handing_with l.out l.so_far) (along_queue (unmet_of l.image l.firsts l.nexts l.met) l.queue parents l.i (l.dirs - l.i)) ≡ hand_all (handing_with l.initial.out l.initial.so_far) (gather (λ d. unmet_of l.image l.firsts l.nexts l.met d.head) (queue_of l.queue parents l.dirs)))
-
-abbrev pub decreases-loop-i : goal.decreases-loop-i
-decreases-loop-i l = l.dirs - l.i
+invariant-loop-i l = (parents : List ℕ) → hand_all (handing_with l.out l.so_far) (along_queue (unmet_of l.image l.firsts l.nexts l.met) l.queue parents l.i (l.dirs - l.i)) ≡ hand_all (handing_with l.initial.out l.initial.so_far) (gather (λ d. unmet_of l.image l.firsts l.nexts l.met d.head) (queue_of l.queue parents l.dirs))

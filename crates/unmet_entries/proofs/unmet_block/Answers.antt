@@ -1,29 +1,33 @@
-use Prim.Native.Nat.{◌-◌}
-use mathlib.Core.Path.{refl, sym, ◌∙◌}
+use mathlib.Core.Path.{◌≡◌, sym, ◌∙◌}
 use native.Mathlib.Omega.{arith}
-use Rattle.laws.specs.Entries.{entries_none, block_whole}
+use Rattle.disk.specs.Blocks.{block_of}
+use Rattle.laws.specs.Entries.{reads_none, reads_more, read_within}
+use Rattle.lookup.proofs.Laws.{reader_whole, reads_same, unbroken_no_fault, unbroken_rest}
 use Rattle.unmet_entries.specs.Along.{hand_no_entries, hand_first}
-use Rattle.unmet_entries.proofs.Laws.{none-at-end, first-at}
-use borrow.Author.Rules.{rules}
 use Rattle.unmet_entries.proofs.unmet_block.Goals as goal
 
-pub loop-fuel-init : goal.loop-fuel-init
-loop-fuel-init c = let whole = block_whole _ _ _ c.block_part-block.ensures in (omega arith, refl, rw whole c.requires, rw whole)
+pub loop-item-init : goal.loop-item-init
+loop-item-init c = rw c.into_iter-item-iterator.ensures.into_iter_gives
+    (let r = c.of-item-items in
+    let same : r.result.block.now ≡ block_of c.args.image.now c.args.b.0 = rw r.ensures.0 c.block_part.ensures in
+    let w = reader_whole _ _ r.result same r.ensures.1 r.ensures.2 in
+    (same, rw w c.requires, rw w))
 
-pub returns-then-len-eq0 : goal.returns-then-len-eq0
-returns-then-len-eq0 c = let l = c.loop-fuel in
-    sym (hand_no_entries _ _ _ (none-at-end _ _ l.fuel (l.fuel - 1) _ (omega arith) l.invariant.2 (sym c.read8-len.ensures ∙ c.if-len-eq0.true))) ∙ l.invariant.3
+pub returns-in_default : goal.returns-in_default
+returns-in_default c = let l = c.loop-item in
+    absurd (unbroken_no_fault _ _ l.item-iterator c.next.new.self l.invariant.0 _ (rw c.in_default.is at c.in-Some.ensures.steps) l.invariant.1)
 
-pub loop-fuel-preserved : goal.loop-fuel-preserved
-loop-fuel-preserved c = let l = c.loop-fuel in
-    let len = c.read8-len.ensures in
-    let f = first-at _ _ l.fuel (l.fuel - 1) _ (omega arith) l.invariant.2 (rw len at c.if-len-eq0.false) in
-    let here = c.unmet_entry-after.ensures f.first (f.anode ∙ sym c.read16.ensures) f.start in (
-      rw len f.room,
-      search rules,
-      rw len f.unbroken,
-      rw len (hand_first _ _ _ f.first _ _ f.entries here ∙ l.invariant.3),
+pub unmet_entry-so_far-requires : goal.unmet_entry-so_far-requires
+unmet_entry-so_far-requires c = omega (arith, read_within c.args.b.0 _ _ _ (rw c.in-Ok.is at c.in-Some.ensures.steps))
+
+pub loop-item-preserved : goal.loop-item-preserved
+loop-item-preserved c = let l = c.loop-item in
+    let y = c.args.b.0 in
+    let read = rw c.in-Ok.is at c.in-Some.ensures.steps in (
+      reads_same _ y _ _ l.invariant.0 _ read,
+      unbroken_rest _ y _ _ l.invariant.0 _ read l.invariant.1,
+      hand_first _ _ _ _ _ _ (reads_more y _ _ _ read) (c.unmet_entry-so_far.ensures _) ∙ l.invariant.2,
     )
 
 pub returns : goal.returns
-returns c = sym (hand_no_entries _ _ _ (entries_none _ _ c.loop-fuel.fuel _ (omega arith))) ∙ c.loop-fuel.invariant.3
+returns c = let l = c.loop-item in sym (hand_no_entries _ _ _ (reads_none _ l.item-iterator c.next.new.self c.in-None.ensures.steps)) ∙ l.invariant.2

@@ -1,0 +1,2 @@
+-- What is left of a chain.
+pub mod Links

@@ -1,0 +1,2 @@
+-- What a list hands back.
+pub mod Handed

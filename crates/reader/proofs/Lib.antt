@@ -1,1 +1,0 @@
--- Rules for walks of code by hand.

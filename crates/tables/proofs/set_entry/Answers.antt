@@ -1,6 +1,0 @@
-use mathlib.Core.Path.{sym}
-use lib.Seq.{set_out}
-use Rattle.tables.proofs.set_entry.Goals as goal
-
-pub returns-then-table-i : goal.returns-then-table-i
-returns-then-table-i c = sym (set_out _ _ _ c.if-table-i.true)
