@@ -205,7 +205,7 @@ fn compare_common(
     d
 }
 
-// What is with_past where `past` bytes differ besides those that were compared, all of them behind these.
+// The comparison where `past` bytes differ besides those that were compared, all of them behind these.
 fn with_past(d: Differing, past: u32) -> Differing
     requires { d.many + past ≤ 4294967295 }
     ensures { result ≡ differing_made (cond (eqb (d.many + past) 0) 0 d.first) (d.many + past) }

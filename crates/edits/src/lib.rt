@@ -285,6 +285,7 @@ fn entries_end(block: &[u8]) -> usize
     ensures { result ≡ entries_end block.now }
 {
     let mut at: usize = 16;
+    // no reader, for the lengths alone are looked at
     for _ in 0..28u32 {
         let len = read8(block, at);
         if len == 0 {

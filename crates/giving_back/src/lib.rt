@@ -164,6 +164,7 @@ pub fn give_old(
         lower: last_anode(nexts, AnodeNo(2)),
     };
     let mut from = 0;
+    // a while loop, for each search begins behind the block that the last one found
     while let Some(y) = next_old(blocks, old, from, size) {
         ends = give_block(slots, last, BlockNo(y), ends, counts, firsts, nexts)?;
         from = y + 1;

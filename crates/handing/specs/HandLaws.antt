@@ -1,4 +1,4 @@
--- What a lent buffer holds once differences were handing_with out into it, one after the other. Assumes nothing.
+-- What a lent buffer holds once differences were handed out into it, one after the other. Assumes nothing.
 use Rattle.std.specs.Prelude.{ℕ, zero, suc, ◌+◌, ◌-◌, ◌*◌, ◌/◌, ◌≤◌, ◌<◌, ◌≡◌, refl, true, cond, List, [], ◌∷◌, ◌++◌, ltb, eqb, length, take, drop, replicate}
 use Rattle.std.proofs.Common.{sym, ap, ◌∙◌, inl, inr, append_assoc, append-nil, arith, length-append, length-drop, take_at, drop-drop}
 use Rattle.std.proofs.Math.Option.{Option, none, some}

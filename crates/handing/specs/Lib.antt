@@ -1,3 +1,3 @@
--- Differences as they are handing_with out into a lent buffer.
+-- Differences as they are handed out into a lent buffer.
 pub mod Differs
 pub mod HandLaws

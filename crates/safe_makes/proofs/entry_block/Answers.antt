@@ -9,9 +9,6 @@ pub returns-then-parents-ne0 : goal.returns-then-parents-ne0
 unfolding entry_plan run
 returns-then-parents-ne0 c = λ slots. rw (ne_eqb c.args.plan.parents.0 0 c.if-parents-ne0.true) refl
 
-pub room_block-requires : goal.room_block-requires
-room_block-requires c = c.requires.anode_tables.1
-
 pub relocate-requires : goal.relocate-requires
 relocate-requires c = let s = c in
     let z = c.if-parents-ne0.false in

@@ -15,6 +15,3 @@ pub finish_make-requires : goal.finish_make-requires
 finish_make-requires c = let s = c in
     let a = s.args in
     record { loaded = s.requires.loaded.0; head_value = s.requires.head_value; name_value = s.requires.name_value; safely_made = rw c.in_ok-made.was at (c.plan_safely.ensures a.day a.minute a.tick a.protection); count_value = s.requires.count_value }
-
-pub returns : goal.returns
-returns c = c.finish_make.ensures

@@ -28,6 +28,3 @@ make_on_copies-requires c = let all_slots : length c.slots_of-slots.result ≡ 4
     let need = new-counted img s.args.head.0 (let a = c.args in new_entry (is_dir a.kind) a.name.now a.comment.now a.day a.minute a.tick a.protection) c.slots_of-slots.result c.slots_of-slots.ensures _ c.new_count-need.ensures.0 in
     let copies = loaded_copies s.requires.loaded.0 _ _ _ c.copied-new_counts.ensures c.copied-new_firsts.ensures c.copied-new_nexts.ensures in
     record { loaded = (s.requires.loaded.0, copies, s.requires.loaded.1); slots_value = (c.slots_of-slots.ensures, all_slots); head_value = s.requires.head_value; name_value = s.requires.name_value; count_value = (omega (arith, need), omega (arith, c.new_count-need.ensures.1), enough_free img _ _ _ free need c.if-chain_sum-need.false) }
-
-pub returns : goal.returns
-returns c = c.make_on_copies.ensures

@@ -48,9 +48,6 @@ returns-then-chain_sum-need c =
 pub entry_block-requires : goal.entry_block-requires
 entry_block-requires c = block_small (member (goal.at.entry_block-requires c).Start)
 
-pub copied-new_nexts-requires : goal.copied-new_nexts-requires
-copied-new_nexts-requires c = c.requires.loaded.0.tables.2
-
 pub plan_resized-requires : goal.plan_resized-requires
 plan_resized-requires c =
     let at = (goal.at.plan_resized-requires c).Start in
