@@ -12,9 +12,12 @@ use lib.Dec.{leb}
 use lib.ListN.{length, length-append, get_or}
 use lib.Seq.{get_or_at}
 use borrow.Author.Tests.{le-leb, leb-true}
+use Rattle.endian.specs.Bytes.{be16, be32}
 use Rattle.disk.specs.Blocks.{block_of}
 use Rattle.directory.specs.declared.Entry.{Entry}
-use Rattle.directory.specs.Entries.{walked_at}
+use Rattle.directory.specs.declared.Kind.{Kind}
+use Rattle.directory.specs.Entries.{kind_read, entry_in, walked_at}
+use Rattle.directory.proofs.Laws.{found_fields}
 use Rattle.rules.specs.Counting.{same_bytes}
 use Rattle.rules.specs.Folding.{folded}
 use Rattle.rules.specs.Anodes.{anodes_of}
@@ -58,6 +61,26 @@ module _ (img index : List ℕ) (j : ℕ) (e : Entered) (w : InBlock index j) (s
         let same : x ≡ t.entry = cc in
         let z : e.start / 512 * 512 + e.start % 512 ≡ e.start = omega arith in
         rw (same, s) (sym (rw z at t.is))
+
+    -- the type byte there says its kind
+    pub kind_there : kind_read (get_or (block_of img (get_or index (10984 + j) 0)) (get_or index (14428 + j) 0 + 1) 0) ≡ Ok t.entry.kind
+    kind_there = (found_fields _ _ _ stands_there).0
+
+    -- an entry of that kind, with the anode and the size that stand there, is e
+    pub fields_there : (k : Kind) → kind_read (get_or (block_of img (get_or index (10984 + j) 0)) (get_or index (14428 + j) 0 + 1) 0) ≡ Ok k
+        → entered img (record {
+          kind = k;
+          anode = record { 0 = be16 (block_of img (get_or index (10984 + j) 0)) (get_or index (14428 + j) 0 + 2) };
+          size = be32 (block_of img (get_or index (10984 + j) 0)) (get_or index (14428 + j) 0 + 4);
+          start = get_or index (10984 + j) 0 * 512 + get_or index (14428 + j) 0;
+        }) ≡ e
+    unfolding entry_in
+    fields_there k said =
+        let f = found_fields _ _ _ stands_there in
+        let kind : k ≡ t.entry.kind = let both = sym said ∙ f.0 in cc in
+        let anode : t.entry.anode.0 ≡ be16 (block_of img (get_or index (10984 + j) 0)) (get_or index (14428 + j) 0 + 2) = ap (λ (x : Entry). x.anode.0) f.1 in
+        let size : t.entry.size ≡ be32 (block_of img (get_or index (10984 + j) 0)) (get_or index (14428 + j) 0 + 4) = ap (λ (x : Entry). x.size) f.1 in
+        rw (kind, ← anode, ← size) (stands_read t.entry stands_there)
 
   -- its folded name
   name_there : {h : ℕ} → EntryIn img h e → name_of img index j ≡ folded e.name

@@ -13,12 +13,13 @@ ghost use Rattle.anodes.specs.Loaded.{anodes_from};
 ghost use Rattle.lookup.specs.Answers.{entry_of};
 ghost use Rattle.counterparts.specs.Spans.{LoadedFor, HeadsDirectory, Added, SpanOf, SpanFor, StandsAt};
 
-use directory::entry_at;
+use directory::Kind;
 use disk::{AnodeNo, BlockNo, block_part};
+use endian::{read8, read16, read32};
 use links::Links;
-use lookup::{EntryAt, entry_in_image};
+use lookup::EntryAt;
 use names::{add_name, find_name};
-use reader::Reader;
+use reader::Places;
 use tables::{entry, zero_first};
 
 // The entries that are in the index for one directory: from one number up to another.
@@ -53,11 +54,8 @@ fn index_block(image: &[u8], index: &mut [u16], i: usize, b: BlockNo) -> usize
     ensures { Added image.now index.old index.new i result (entries_in image.now b.0) }
 {
     let mut n = i;
-    for item in Reader::of(block_part(image, b)) {
-        let Ok(read) = item else {
-            return n;
-        };
-        add_name(image, index, n, b, read.at);
+    for at in Places::of(block_part(image, b)) {
+        add_name(image, index, n, b, at);
         n += 1;
     }
     n
@@ -106,11 +104,16 @@ fn indexed_entry(image: &[u8], index: &[u16], j: usize) -> Option<EntryAt>
 {
     let b = BlockNo(entry(index, 10984 + j));
     let at = entry(index, 14428 + j) as usize;
-    match entry_at(block_part(image, b), at) {
-        Ok(Some(e)) => Some(entry_in_image(b, at, e)),
-        Ok(None) => None,
-        Err(_) => None,
-    }
+    let block = block_part(image, b);
+    let Ok(kind) = Kind::try_from(read8(block, at + 1)) else {
+        return None;
+    };
+    Some(EntryAt {
+        kind,
+        anode: AnodeNo(read16(block, at + 2)),
+        size: read32(block, at + 4),
+        start: (b.0 as usize) * 512 + at,
+    })
 }
 
 // The entry of that name in the directory that the span is of.

@@ -308,6 +308,21 @@ found_at b at x h = go (eqb (get_or b at 0) 0) (entry_shaped b at) (walked_kind 
     go false false w j f = absurd (false≢true (ap is_found f))
     go false true w j f = shaped_at b at j
 
+fields_of : (b : List ℕ) (at : ℕ) (x : Entry) (k : Kind) → kind_read (get_or b (at + 1) 0) ≡ Ok k → entry_in b at k ≡ x → (kind_read (get_or b (at + 1) 0) ≡ Ok x.kind) × (x ≡ entry_in b at x.kind)
+unfolding entry_in
+fields_of b at x k e i = rw (← i) (e, refl)
+
+-- its kind is that of its type byte, and its fields are those that stand there
+pub found_fields : (b : List ℕ) (at : ℕ) (x : Entry) → walked_at b at ≡ Ok (Some x) → (kind_read (get_or b (at + 1) 0) ≡ Ok x.kind) × (x ≡ entry_in b at x.kind)
+unfolding walked_at
+found_fields b at x h = go (eqb (get_or b at 0) 0) (entry_shaped b at) (kind_read (get_or b (at + 1) 0)) refl h
+  where
+    go : (p q : Bool) (k : Result Kind UnknownKind) → kind_read (get_or b (at + 1) 0) ≡ k → cond p (Ok None) (cond q (walked_kind k (entry_in b at)) (Err DirectoryBlock)) ≡ Ok (Some x) → (kind_read (get_or b (at + 1) 0) ≡ Ok x.kind) × (x ≡ entry_in b at x.kind)
+    go true q k e f = absurd (false≢true (ap is_found f))
+    go false true (Ok k) e f = fields_of b at x k e cc
+    go false true (Err w) e f = absurd (false≢true (ap is_found f))
+    go false false k e f = absurd (false≢true (ap is_found f))
+
 -- the end mark is a length byte 0
 pub end-at : (b : List ℕ) (at : ℕ) → walked_at b at ≡ Ok None → get_or b at 0 ≡ 0
 unfolding walked_at

@@ -12,8 +12,9 @@ use Rattle.directory.specs.declared.Entry.{Entry}
 use Rattle.directory.specs.Entries.{is_dir, name_in, walked_at}
 use Rattle.directory.proofs.Laws.{found_at, fault_at}
 use Rattle.reader.specs.declared.EntryRead.{EntryRead}
+use Rattle.reader.specs.declared.PlaceRead.{PlaceRead}
 use Rattle.reader.specs.declared.Reader.{Reader}
-use Rattle.reader.specs.Reads.{place_after, ReadsEntry, Reads}
+use Rattle.reader.specs.Reads.{place_after, entry_read, ReadsEntry, Reads}
 use Rattle.rules.specs.Counting.{sum_list, occurrences, any_in, gather}
 use Rattle.rules.specs.Folding.{folded}
 use Rattle.rules.specs.Anodes.{limit, Anodes}
@@ -51,6 +52,25 @@ pub block_whole : (img : List ℕ) (y : ℕ) (b : List ℕ) → b ≡ block_of i
 unfolding entries_in
 block_whole img y b e = rw e
 
+-- what is read at a place: the step of every walk over a block
+module _ (b : List ℕ) (at : ℕ) (r : PlaceRead) (read : r ≡ entry_read b at) where
+  here_is : r.walked ≡ walked_at b at
+  unfolding entry_read
+  here_is = ap (λ x. x.walked) read
+
+  -- the entries from the place on: what is read there, then those from the place behind it on
+  pub entries_read : (y k m : ℕ) → k ≡ m + 1 → entries_from k b y at ≡ with_rest r.walked (name_in b at) (y * 512 + at) (entries_from m b y r.after)
+  unfolding entries_from entry_read place_after
+  entries_read y k m fuel = rw (fuel, add-one m, read)
+
+  -- an entry that is read begins within the block
+  pub entry_within : (x : Entry) → r.walked ≡ Ok (Some x) → at < 512
+  entry_within x e = omega (arith, (found_at b at x (sym here_is ∙ e)).room)
+
+  -- a fault that is read is 12
+  pub fault_number : (x : Refusal) → r.walked ≡ Err x → number_of x ≡ 12
+  fault_number x e = ap number_of (fault_at b at x (sym here_is ∙ e))
+
 -- the entries of block y that a reader of it has still to give
 abbrev pub entries_left : ℕ → Reader → List Entered
 entries_left y r = entries_from r.left r.block.now y r.at
@@ -64,8 +84,8 @@ module _ (y : ℕ) (r r' : Reader) where
 
   -- nothing, where none is left
   pub reads_none : Reads r None r' → entries_left y r ≡ []
-  reads_none (inl e) = entries_none r.block.now y r.left r.at e
-  reads_none (inr e) = entries_end_lem r.block.now y r.left r.at e
+  reads_none (same, inl e) = entries_none r.block.now y r.left r.at e
+  reads_none (same, inr e) = entries_end_lem r.block.now y r.left r.at e
 
   -- or a fault, the last that is left
   pub reads_fault : (f : Refusal) → Reads r (Some (Err f)) r' → entries_left y r ≡ with_rest (Err f) (name_in r.block.now r.at) (y * 512 + r.at) []

@@ -1,17 +1,21 @@
 -- Laws of the rules' entries and lookups, from a place on. Assumes nothing.
-use Rattle.std.specs.Prelude.{Option as Answer, Some, None, Err}
+use Rattle.std.specs.Prelude.{Option as Answer, Some, None, Ok, Err}
 use Rattle.std.specs.Option.{is_some, option_or}
 use Prim.Native.Nat.{ℕ, ◌+◌, ◌*◌, ◌/◌, ◌%◌, ◌<◌}
-use mathlib.Core.Path.{◌≡◌, refl, sym}
+use mathlib.Core.Path.{◌≡◌, refl, sym, ap}
+use mathlib.Core.Logic.{inl, inr}
 use mathlib.Core.Bool.{Bool, true, false, true≢false, false≢true}
 use mathlib.Core.List.{List, [], ◌∷◌, ◌++◌}
 use mathlib.Core.Option.{Option, none, some}
 use native.Mathlib.Numerals.{add-one}
 use native.Mathlib.Omega.{arith}
 use lib.ListN.{get_or}
+use borrow.Author.Tests.{eq-eqb}
 use Rattle.disk.specs.declared.Refusal.{Refusal}
 use Rattle.disk.specs.Blocks.{block_of}
-use Rattle.directory.specs.Entries.{name_in}
+use Rattle.directory.specs.declared.Entry.{Entry}
+use Rattle.directory.specs.Entries.{Walked, name_in, walked_at}
+use Rattle.directory.proofs.Laws.{end-at}
 use Rattle.counting.specs.Laws.{neither}
 use Rattle.rules.specs.Counting.{any_in, gather}
 use Rattle.rules.specs.Anodes.{limit}
@@ -22,7 +26,8 @@ use Rattle.anodes.specs.Loaded.{anodes_from}
 use Rattle.laws.specs.Entries.{Unbroken, entries_left, reads_more, reads_fault, read_within}
 use Rattle.reader.specs.declared.Reader.{Reader}
 use Rattle.reader.specs.declared.EntryRead.{EntryRead}
-use Rattle.reader.specs.Reads.{ReadsEntry, Reads}
+use Rattle.reader.specs.declared.Places.{Places}
+use Rattle.reader.specs.Reads.{ReadsEntry, Reads, GivesPlace, GivesPlaces}
 use Rattle.lookup.specs.declared.EntryAt.{EntryAt}
 use Rattle.lookup.specs.Answers.{entry_of, or_else, only_if, placed, entered}
 
@@ -74,6 +79,25 @@ module _ (img : List ℕ) (y : ℕ) (r r' : Reader) (is : r.block.now ≡ block_
   pub unbroken_no_fault : (f : Refusal) → Reads r (Some (Err f)) r' → Unbroken (entries_left y r) → ⊥
   unfolding any_in
   unbroken_no_fault f w u = true≢false (rw (reads_fault y r r' f w) at u)
+
+-- where no entry is broken, a length byte that is not 0 is an entry's
+module _ (y : ℕ) (r r' : Reader) where
+  pub place_entry : (at : ℕ) → GivesPlace r at r' → Unbroken (entries_left y r) → (x : Entry) × ReadsEntry r (record { at = at; entry = x }) r'
+  unfolding any_in
+  place_entry at g u = go (walked_at r.block.now r.at) refl
+    where
+      go : (w : Walked) → walked_at r.block.now r.at ≡ w → (x : Entry) × ReadsEntry r (record { at = at; entry = x }) r'
+      go (Ok (Some x)) e = (x, record { may = g.may; place = g.place; entry = e; same_block = g.same_block; behind = g.behind })
+      go (Ok None) e = absurd (g.some (end-at r.block.now r.at e))
+      go (Err f) e =
+          let none : Reader = record { block = r.block; at = r.at; left = 0 } in
+          absurd (true≢false (rw (reads_fault y r none f (omega (arith, g.may), e, refl)) at u))
+
+-- and 0 is the end mark
+pub places_none : (p p' : Places) → GivesPlaces p None p' → Reads p.reader None p'.reader
+unfolding walked_at
+places_none p p' (same, inl e) = (ap (λ (q : Places). q.reader) same, inl e)
+places_none p p' (same, inr z) = (ap (λ (q : Places). q.reader) same, inr (rw (eq-eqb (get_or p.reader.block.now p.reader.at 0) 0 z)))
 
 -- an entry passed: the first found so far with the entries from the place on, and with the one at the place before those behind it
 pub named-passed : (name : List ℕ) (e : Entered) (rest : List Entered) (found : Option Entered)

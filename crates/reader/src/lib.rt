@@ -3,7 +3,7 @@
 
 ghost use Rattle.std.specs.Prelude.{◌≡◌};
 ghost use Rattle.std.specs.Iterator.{at_most};
-ghost use Rattle.reader.specs.Reads.{place_after, Reads};
+ghost use Rattle.reader.specs.Reads.{place_after, entry_read, Reads, GivesPlaces};
 
 use directory::{Entry, entry_at};
 use disk::Refusal;
@@ -16,11 +16,38 @@ pub struct Reader<'a> {
     left: usize,
 }
 
+// What stands at a place of a directory block, and the place behind it.
+#[derive(Clone, Copy)]
+pub struct PlaceRead {
+    pub walked: Result<Option<Entry>, Refusal>,
+    pub after: usize,
+}
+
 // An entry and its place in its block.
 #[derive(Clone, Copy)]
 pub struct EntryRead {
     pub at: usize,
     pub entry: Entry,
+}
+
+// The place behind what stands at a place of a directory block; past the end of the block the same place.
+fn place_after(block: &[u8], at: usize) -> usize
+    ensures { result ≡ place_after block.now at }
+{
+    if block.len() <= at {
+        return at;
+    }
+    at + (block[at] as usize)
+}
+
+// What stands at a place of a directory block, and the place behind it.
+pub fn read_entry(block: &[u8], at: usize) -> PlaceRead
+    ensures { result ≡ entry_read block.now at }
+{
+    PlaceRead {
+        walked: entry_at(block, at),
+        after: place_after(block, at),
+    }
 }
 
 impl<'a> Reader<'a> {
@@ -33,16 +60,6 @@ impl<'a> Reader<'a> {
             at: 16,
             left: 28,
         }
-    }
-
-    // The place behind what stands at the reader's place; past the end of the block the same place.
-    fn behind(&self) -> usize
-        ensures { result ≡ place_after self.now.block.now self.now.at }
-    {
-        if self.block.len() <= self.at {
-            return self.at;
-        }
-        self.at + (self.block[self.at] as usize)
     }
 }
 
@@ -59,9 +76,10 @@ impl<'a> Iterator for Reader<'a> {
             return None;
         }
         let at = self.at;
-        match entry_at(self.block, at) {
+        let read = read_entry(self.block, at);
+        match read.walked {
             Ok(Some(entry)) => {
-                self.at = self.behind();
+                self.at = read.after;
                 self.left -= 1;
                 Some(Ok(EntryRead { at, entry }))
             }
@@ -71,5 +89,45 @@ impl<'a> Iterator for Reader<'a> {
                 Some(Err(fault))
             }
         }
+    }
+}
+
+// The places of a block's entries, by their length bytes alone.
+#[derive(Clone, Copy)]
+pub struct Places<'a> {
+    reader: Reader<'a>,
+}
+
+impl<'a> Places<'a> {
+    // Those of a block, from 16 on.
+    pub fn of(block: &'a [u8]) -> Places<'a>
+        ensures { (result.reader.block ≡ block.entry) × (result.reader.at ≡ 16) × (result.reader.left ≡ 28) }
+    {
+        Places {
+            reader: Reader::of(block),
+        }
+    }
+}
+
+// The places up to a length byte 0: those of the entries, where none of them breaks the rules.
+impl<'a> Iterator for Places<'a> {
+    type Item = usize;
+
+    ghost next_gives = { GivesPlaces };
+
+    ghost remaining = { λ p. at_most p.reader.left };
+
+    fn next(&mut self) -> Option<usize> {
+        if self.reader.left == 0 {
+            return None;
+        }
+        let at = self.reader.at;
+        let behind = place_after(self.reader.block, at);
+        if behind == at {
+            return None;
+        }
+        self.reader.at = behind;
+        self.reader.left -= 1;
+        Some(at)
     }
 }

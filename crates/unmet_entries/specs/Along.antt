@@ -1,12 +1,17 @@
 -- The differences that a function gives for entries, handed out along a block, a chain and the queue. Assumes nothing.
-use Rattle.std.specs.Prelude.{ℕ, suc, ◌+◌, ◌≡◌, List, [], ◌∷◌, ◌++◌}
+use Rattle.std.specs.Prelude.{ℕ, suc, ◌+◌, ◌≡◌, List, [], ◌∷◌, ◌++◌, Ok, Some}
 use Rattle.std.proofs.Common.{sym, ap, ◌∙◌}
 use Rattle.std.proofs.Math.Numerals.{add-one}
 use Rattle.std.proofs.Math.ListN.{get_or}
+use Rattle.directory.specs.declared.Entry.{Entry}
+use Rattle.directory.specs.Entries.{Walked}
 use Rattle.rules.specs.Counting.{gather}
-use Rattle.rules.specs.Walk.{Entered, entries_in}
+use Rattle.rules.specs.Chains.{chain_of}
+use Rattle.rules.specs.Walk.{Entered, with_rest, entries_in}
 use Rattle.laws.specs.Bags.{gather_append}
-use Rattle.lookup.proofs.Laws.{entries_along, along}
+use Rattle.laws.specs.Chains.{chain-none, chain-end}
+use Rattle.laws.specs.Entries.{entered_at}
+use Rattle.lookup.proofs.Laws.{entries_along, along, along_end}
 use Rattle.walk_steps.specs.Steps.{dirs_from, queue_of}
 use Rattle.differences.specs.Differences.{Difference}
 use Rattle.differences.specs.Handing.{Handing, hand_all}
@@ -29,6 +34,20 @@ module _ (f : Entered → List Difference) (h : Handing) where
       hand_all r (gather f rest) ≡ hand_all h (gather f es)
   unfolding gather
   hand_first es e rest r is here = rw (is, here) (sym (hand_append h (f e) (gather f rest)))
+
+  -- what is read at a place, with the entries behind it
+  pub hand_found : (w : Walked) (name : List ℕ) (start : ℕ) (rest : List Entered) (e : Entry) (r : Handing) → w ≡ Ok (Some e) → r ≡ hand_all h (f (entered_at e name start)) →
+      hand_all r (gather f rest) ≡ hand_all h (gather f (with_rest w name start rest))
+  hand_found w name start rest e r is here = hand_first (with_rest w name start rest) (entered_at e name start) rest r (rw is) here
+
+  module _ (img firsts nexts : List ℕ) where
+    -- a chain that is at its end
+    pub hand_chain-end : (k a : ℕ) → a ≡ 0 → hand_all h (gather f (entries_along img firsts (chain_of (λ x. get_or nexts x 0) k a))) ≡ h
+    hand_chain-end k a e = hand_no_entries _ (along_end img firsts _ (chain-end (λ x. get_or nexts x 0) k a e))
+
+    -- no anode of it is left to be looked at
+    pub hand_chain-none : (k a : ℕ) → k ≡ 0 → hand_all h (gather f (entries_along img firsts (chain_of (λ x. get_or nexts x 0) k a))) ≡ h
+    hand_chain-none k a e = hand_no_entries _ (along_end img firsts _ (chain-none (λ x. get_or nexts x 0) k a e))
 
   -- the entries of the first of some anodes, and those behind it
   pub hand_chain_step : (img firsts anodes : List ℕ) (a : ℕ) (rest : List ℕ) → anodes ≡ a ∷ rest → (r : Handing) → r ≡ hand_all h (gather f (entries_in img (get_or firsts a 0))) →

@@ -3,9 +3,9 @@
 
 ghost use Rattle.std.specs.Prelude.{List, [], ◌≡◌, ℕ, ◌+◌, ◌*◌, ◌<◌, ◌≤◌, get_or};
 ghost use Rattle.rules.specs.Counting.{gather};
-ghost use Rattle.rules.specs.Walk.{entries_in};
+ghost use Rattle.rules.specs.Walk.{Entered, entries_in};
 ghost use Rattle.rules.specs.Lookup.{entries_of};
-ghost use Rattle.laws.specs.Entries.{entered_at, Unbroken};
+ghost use Rattle.laws.specs.Entries.{Unbroken};
 ghost use Rattle.anodes.specs.Loaded.{anodes_from};
 ghost use Rattle.walk_steps.specs.Steps.{queue_of};
 ghost use Rattle.differences.specs.Pairs.{unmet};
@@ -13,34 +13,41 @@ ghost use Rattle.differences.specs.Handing.{hand_all};
 ghost use Rattle.handing.specs.Differs.{handing_with};
 
 use disk::{AnodeNo, BlockNo, block_part};
+use endian::read16;
 use handing::{Differs, Handed, hand_out};
 use links::Links;
-use reader::{EntryRead, Reader};
+use reader::Places;
 use tables::entry;
 
-// Hands out an entry that was read in block `b`, unless it was met.
-fn unmet_entry(met: &[u16], b: BlockNo, read: EntryRead, out: &mut [u32], c: Handed) -> Handed
-    requires { read.at ≤ 65535 }
-    ensures { (name : List ℕ) → handing_with out.new result ≡ hand_all (handing_with out.old c) (unmet met.now (entered_at read.entry name (b.0 * 512 + read.at))) }
+// Hands out the entry at a place of block `b`, unless it was met.
+fn unmet_entry(
+    met: &[u16],
+    b: BlockNo,
+    at: usize,
+    anode: AnodeNo,
+    out: &mut [u32],
+    c: Handed,
+) -> Handed
+    requires { at ≤ 65535 }
+    ensures { (f : Entered) → f.anode ≡ anode.0 → f.start ≡ b.0 * 512 + at → handing_with out.new result ≡ hand_all (handing_with out.old c) (unmet met.now f) }
 {
-    if entry(met, read.entry.anode.0 as usize) != 0 {
+    if entry(met, anode.0 as usize) != 0 {
         return c;
     }
-    let start = (b.0 as u32) * 512 + (read.at as u32);
+    let start = (b.0 as u32) * 512 + (at as u32);
     hand_out(out, c, Differs::OnlySecond(start))
 }
 
-// Those of block `b`.
+// Those of block `b`, whose entries are right: the length byte and the anode are all that is read of one.
 fn unmet_block(image: &[u8], met: &[u16], b: BlockNo, out: &mut [u32], c: Handed) -> Handed
     requires { Unbroken (entries_in image.now b.0) }
     ensures { handing_with out.new result ≡ hand_all (handing_with out.old c) (gather (unmet met.now) (entries_in image.now b.0)) }
 {
+    let block = block_part(image, b);
     let mut so_far = c;
-    for item in Reader::of(block_part(image, b)) {
-        let Ok(read) = item else {
-            return so_far;
-        };
-        so_far = unmet_entry(met, b, read, out, so_far);
+    for at in Places::of(block) {
+        let anode = AnodeNo(read16(block, at + 2));
+        so_far = unmet_entry(met, b, at, anode, out, so_far);
     }
     so_far
 }

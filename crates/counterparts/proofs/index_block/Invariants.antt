@@ -5,5 +5,5 @@ use Rattle.laws.specs.Entries.{entries_left}
 use Rattle.counterparts.proofs.Laws.{Filling}
 use Rattle.counterparts.proofs.index_block.Given as goal
 
-abbrev pub invariant-loop-item : goal.invariant-loop-item
-invariant-loop-item l = (l.item-iterator.block.now ≡ block_of l.image l.b.0) × Filling l.image l.initial.index l.index l.fn.i l.n (entries_left l.b.0 l.item-iterator) (entries_in l.image l.b.0)
+abbrev pub invariant-loop-at : goal.invariant-loop-at
+invariant-loop-at l = (l.at-iterator.reader.block.now ≡ block_of l.image l.b.0) × Filling l.image l.initial.index l.index l.fn.i l.n (entries_left l.b.0 l.at-iterator.reader) (entries_in l.image l.b.0)

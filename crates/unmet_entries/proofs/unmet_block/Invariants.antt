@@ -8,7 +8,7 @@ use Rattle.differences.specs.Handing.{hand_all}
 use Rattle.handing.specs.Differs.{handing_with}
 use Rattle.unmet_entries.proofs.unmet_block.Given as goal
 
-abbrev pub invariant-loop-item : goal.invariant-loop-item
-invariant-loop-item l = (l.item-iterator.block.now ≡ block_of l.image l.b.0)
-    × Unbroken (entries_left l.b.0 l.item-iterator)
-    × (hand_all (handing_with l.out l.so_far) (gather (unmet l.met) (entries_left l.b.0 l.item-iterator)) ≡ hand_all (handing_with l.initial.out l.initial.so_far) (gather (unmet l.met) (entries_in l.image l.b.0)))
+abbrev pub invariant-loop-at : goal.invariant-loop-at
+invariant-loop-at l = (l.at-iterator.reader.block.now ≡ block_of l.image l.b.0)
+    × Unbroken (entries_left l.b.0 l.at-iterator.reader)
+    × (hand_all (handing_with l.out l.so_far) (gather (unmet l.met) (entries_left l.b.0 l.at-iterator.reader)) ≡ hand_all (handing_with l.initial.out l.initial.so_far) (gather (unmet l.met) (entries_in l.image l.b.0)))
