@@ -33,7 +33,7 @@ fn copy_bytes(source: &[u8], out: &mut [u8], done: usize) -> usize
         return done;
     }
     let n = source.len().min(out.len() - done);
-    out[done..done + n].copy_from_slice(&source[..n]);
+    store(out, done, source);
     done + n
 }
 

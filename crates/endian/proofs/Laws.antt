@@ -10,7 +10,7 @@ use native.Mathlib.Omega.{arith}
 use native.Mathlib.Numerals.{add-one}
 use native.Mathlib.Nat.{not-suc-le-zero}
 use lib.ListN.{length, get_or, set, take, drop, replicate, length-set, length-take, length-replicate, get_or-replicate, drop_of_length-le, get_or-eq_default, length-drop, replicate-append-replicate}
-use lib.Seq.{set_out, get_or-set_same, get_or-set_other, get_or-take, ext_get_or, drop-set-lt, drop-nil, length-take-le, length-sets, get_or-drop, take-set-lt, drop-set-add, take_at}
+use lib.Seq.{set_out, get_or-set_same, get_or-set_other, get_or-take, ext_get_or, drop-set-lt, drop-cons, drop-nil, length-take-le, length-sets, get_or-drop, take-set-lt, drop-set-add, take_at}
 use lib.Seq.{take_all}
 use Rattle.std.proofs.lemmas.List.Edits.{sets-eq}
 use Rattle.std.proofs.lemmas.Slice.{put_mid-paste}
@@ -122,10 +122,19 @@ stored-cons : (l : List ℕ) (at v : ℕ) (s : List ℕ) → stored l at (v ∷ 
 unfolding stored
 stored-cons l at v s = rw (add-one at)
 
+-- one more byte of the run, from its byte `j` on
+pub stored_step : (l : List ℕ) (at : ℕ) (s : List ℕ) (j : ℕ) → j < length s
+    → stored l at (drop j s) ≡ stored (set l at (get_or s j 0)) (at + 1) (drop (j + 1) s)
+stored_step l at s j h = rw (drop-cons s j 0 h, add-one j) (stored-cons l at (get_or s j 0) (drop (suc j) s))
+
 -- nothing is stored past the end
 pub stored-out : (l : List ℕ) (at : ℕ) (s : List ℕ) → length l ≤ at → stored l at s ≡ l
 stored-out l at [] h = stored-none l at
 stored-out l at (v ∷ s) h = stored-cons l at v s ∙ rw (set_out l at v h) (stored-out l (at + 1) s (omega arith))
+
+-- nothing is left to be stored behind the smaller of both lengths
+pub stored-end : (l : List ℕ) (at : ℕ) (s : List ℕ) (n : ℕ) → n ≡ min (length s) (length l - at) → stored l (at + n) (drop n s) ≡ l
+stored-end l at s n e = ⊎_elim (λ h. stored-out l (at + n) (drop n s) (omega (arith, e, h))) (λ (h : length s ≤ n). rw (drop_of_length-le s {i = n} h) (stored-none l (at + n))) (less? n (length s))
 
 -- as many bytes are stored as there are
 pub stored-take : (l : List ℕ) (at : ℕ) (s : List ℕ) (k : ℕ) → length l ≤ at + k → stored l at (take k s) ≡ stored l at s

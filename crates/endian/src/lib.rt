@@ -91,7 +91,10 @@ pub fn store(bytes: &mut [u8], at: usize, source: &[u8])
     let len = bytes.len();
     if at < len {
         let n = source.len().min(len - at);
-        bytes[at..at + n].copy_from_slice(&source[..n]);
+        // byte by byte, for `copy_from_slice` makes the library for C need memmove from outside
+        for j in 0..n {
+            bytes[at + j] = source[j];
+        }
     }
 }
 
