@@ -63,6 +63,10 @@ module _ (img b₀ a₀ b a : List ℕ) (x : Result Tally Refusal) (e : outcome_
     unfolding settled
     settled_k output name = rw (← blocks-left (number_of r) number_is, ← anodes_left_lem (number_of r) number_is)
 
+    pub check_refused : outcome_of (number_of r) img b a [] [] ≡ check_outcome img b₀ a₀
+    unfolding check_outcome
+    check_refused = rw answers_k (settled_k [] [])
+
     pub summary_refused : outcome_of (number_of r) img b a (replicate 4 0) [] ≡ summary_outcome img b₀ a₀
     unfolding summary_outcome
     summary_refused = rw (answers_k, not_done (number_of r) (number_some r) (summary_of img (anodes_of img)) (replicate 4 0)) (settled_k (replicate 4 0) [])
@@ -113,6 +117,10 @@ module _ (img b₀ a₀ b a : List ℕ) (x : Result Tally Refusal) (e : outcome_
     pub settled_late : (k : ℕ) → Late k → (output name : List ℕ) → outcome_of k img b a output name ≡ settled (left k img) b₀ a₀ output name
     unfolding settled
     settled_late k l output name = rw (blocks_late k l, anodes_late k l)
+
+    pub check_accepted : outcome_of 0 img b a [] [] ≡ check_outcome img b₀ a₀
+    unfolding check_outcome
+    check_accepted = rw answers-0 (settled_late 0 (inl refl) [] [])
 
     pub summary_accepted : Tallied x img (anodes_of img) → (n : ℕ) → n ≡ disk_size img → outcome_of 0 img b a (n ∷ t.free ∷ t.files ∷ t.dirs ∷ []) [] ≡ summary_outcome img b₀ a₀
     unfolding summary_outcome done_or summary_of

@@ -1,7 +1,7 @@
 // The check: every refusal of the rules in order, both tables, and what it loaded.
 #![tactic(auto)]
 
-ghost use Rattle.std.specs.Prelude.{false, [], ◌≡◌, ◌≤◌, length};
+ghost use Rattle.std.specs.Prelude.{false, [], ◌≡◌, ◌≤◌, length, replicate};
 ghost use Rattle.disk.specs.Refusals.{answer_of};
 ghost use Rattle.rules.specs.Counting.{◌if◌else◌};
 ghost use Rattle.rules.specs.Anodes.{anodes_of};
@@ -183,7 +183,10 @@ pub struct DiskTables {
 
 impl DiskTables {
     // The tables before anything is loaded.
-    pub fn empty() -> DiskTables {
+    pub fn empty() -> DiskTables
+        ensures anodes { (result.counts ≡ replicate 3444 0) × (result.firsts ≡ replicate 3444 0) × (result.nexts ≡ replicate 3444 0) }
+        ensures directories { (result.queue ≡ replicate 3444 0) × (result.parents ≡ replicate 3444 0) }
+    {
         DiskTables {
             counts: [0; 3444],
             firsts: [0; 3444],
