@@ -1,5 +1,5 @@
 -- The differences that a function gives for entries, handed out along a block, a chain and the queue. Assumes nothing.
-use Rattle.std.specs.Prelude.{ℕ, suc, ◌+◌, ◌≡◌, List, [], ◌∷◌, ◌++◌, Ok, Some}
+use Rattle.std.specs.Prelude.{ℕ, suc, ◌+◌, ◌≡◌, ◌≢◌, List, [], ◌∷◌, ◌++◌, Ok, Some}
 use Rattle.std.proofs.Common.{sym, ap, ◌∙◌}
 use Rattle.std.proofs.Math.Numerals.{add-one}
 use Rattle.std.proofs.Math.ListN.{get_or}
@@ -9,7 +9,7 @@ use Rattle.rules.specs.Counting.{gather}
 use Rattle.rules.specs.Chains.{chain_of}
 use Rattle.rules.specs.Walk.{Entered, with_rest, entries_in}
 use Rattle.laws.specs.Bags.{gather_append}
-use Rattle.laws.specs.Chains.{chain-none, chain-end}
+use Rattle.laws.specs.Chains.{chain-none, chain-end, chain_step}
 use Rattle.laws.specs.Entries.{entered_at}
 use Rattle.lookup.proofs.Laws.{entries_along, along, along_end}
 use Rattle.walk_steps.specs.Steps.{dirs_from, queue_of}
@@ -40,6 +40,11 @@ module _ (f : Entered → List Difference) (h : Handing) where
       hand_all r (gather f rest) ≡ hand_all h (gather f (with_rest w name start rest))
   hand_found w name start rest e r is here = hand_first (with_rest w name start rest) (entered_at e name start) rest r (rw is) here
 
+  -- the entries of the first of some anodes, and those behind it
+  pub hand_along : (img firsts anodes : List ℕ) (a : ℕ) (rest : List ℕ) → anodes ≡ a ∷ rest → (r : Handing) → r ≡ hand_all h (gather f (entries_in img (get_or firsts a 0))) →
+      hand_all r (gather f (entries_along img firsts rest)) ≡ hand_all h (gather f (entries_along img firsts anodes))
+  hand_along img firsts anodes a rest is r here = rw (along img firsts anodes a rest is, here) (sym (hand_join _ _))
+
   module _ (img firsts nexts : List ℕ) where
     -- a chain that is at its end
     pub hand_chain-end : (k a : ℕ) → a ≡ 0 → hand_all h (gather f (entries_along img firsts (chain_of (λ x. get_or nexts x 0) k a))) ≡ h
@@ -49,10 +54,10 @@ module _ (f : Entered → List Difference) (h : Handing) where
     pub hand_chain-none : (k a : ℕ) → k ≡ 0 → hand_all h (gather f (entries_along img firsts (chain_of (λ x. get_or nexts x 0) k a))) ≡ h
     hand_chain-none k a e = hand_no_entries _ (along_end img firsts _ (chain-none (λ x. get_or nexts x 0) k a e))
 
-  -- the entries of the first of some anodes, and those behind it
-  pub hand_chain_step : (img firsts anodes : List ℕ) (a : ℕ) (rest : List ℕ) → anodes ≡ a ∷ rest → (r : Handing) → r ≡ hand_all h (gather f (entries_in img (get_or firsts a 0))) →
-      hand_all r (gather f (entries_along img firsts rest)) ≡ hand_all h (gather f (entries_along img firsts anodes))
-  hand_chain_step img firsts anodes a rest is r here = rw (along img firsts anodes a rest is, here) (sym (hand_join _ _))
+    -- the entries of anode a's block, and those behind it
+    pub hand_chain_step : (k m a : ℕ) → k ≡ m + 1 → a ≢ 0 → (r : Handing) → r ≡ hand_all h (gather f (entries_in img (get_or firsts a 0))) →
+        hand_all r (gather f (entries_along img firsts (chain_of (λ x. get_or nexts x 0) m (get_or nexts a 0)))) ≡ hand_all h (gather f (entries_along img firsts (chain_of (λ x. get_or nexts x 0) k a)))
+    hand_chain_step k m a fuel some r here = hand_along img firsts _ a _ (chain_step (λ x. get_or nexts x 0) k m a fuel some) r here
 
 -- ---- the directories of the queue
 

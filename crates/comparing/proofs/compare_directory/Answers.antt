@@ -1,6 +1,6 @@
 use mathlib.Core.Path.{sym, ◌∙◌}
 use Rattle.lookup.proofs.Laws.{along_end}
-use Rattle.unmet_entries.specs.Along.{hand_no_entries, hand_chain_step}
+use Rattle.unmet_entries.specs.Along.{hand_no_entries, hand_along}
 use Rattle.comparing.proofs.Laws.{readable_block, readable_behind, along_loaded, pairs_none, pairs_chain_step}
 use Rattle.comparing.proofs.compare_directory.Goals as goal
 
@@ -21,7 +21,7 @@ loop-a-preserved c = let l = c.loop-a in
     let made = rw c.entry.ensures at c.compare_block-so_far.ensures in (
       readable_behind _ _ _ _ _ is l.invariant.0,
       pairs_chain_step _ _ _ _ _ _ _ _ is _ made.pairs ∙ l.invariant.1,
-      hand_chain_step _ _ _ _ _ _ _ is _ made.differences ∙ l.invariant.2,
+      hand_along _ _ _ _ _ _ _ is _ made.differences ∙ l.invariant.2,
     )
 
 pub returns : goal.returns

@@ -1,6 +1,6 @@
 use mathlib.Core.Path.{sym, ◌∙◌}
 use Rattle.lookup.proofs.Laws.{along_whole, along_end, unbroken_along}
-use Rattle.unmet_entries.specs.Along.{hand_no_entries, hand_chain_step}
+use Rattle.unmet_entries.specs.Along.{hand_no_entries, hand_along}
 use Rattle.unmet_entries.proofs.unmet_directory.Goals as goal
 
 pub loop-a-init : goal.loop-a-init
@@ -13,7 +13,7 @@ pub loop-a-preserved : goal.loop-a-preserved
 loop-a-preserved c = let l = c.loop-a in
     let is = c.in-Some.ensures.steps in (
       (unbroken_along _ _ _ _ _ is l.invariant.0).1,
-      hand_chain_step _ _ _ _ _ _ _ is _ (rw c.entry.ensures at c.unmet_block-so_far.ensures) ∙ l.invariant.1,
+      hand_along _ _ _ _ _ _ _ is _ (rw c.entry.ensures at c.unmet_block-so_far.ensures) ∙ l.invariant.1,
     )
 
 pub returns : goal.returns
